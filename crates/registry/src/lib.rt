@@ -1,0 +1,1 @@
+// The published calls: opening a store, a request, a group.

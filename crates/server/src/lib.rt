@@ -1,0 +1,41 @@
+// Commands and sessions (src/server.rs).
+pub mod changes;
+pub mod errors;
+pub mod glob;
+pub mod names;
+pub mod queue;
+pub mod sessions;
+pub mod watch;
+
+// The command that a name means.
+pub enum Name {
+    Get,
+    Set,
+    Del,
+    Exists,
+    Mget,
+    Mset,
+    Incr,
+    Incrby,
+    Decr,
+    Ping,
+    Echo,
+    Dbsize,
+    Keys,
+    Scan,
+    Range,
+    Multi,
+    Exec,
+    Discard,
+    Watch,
+    Unwatch,
+    Quit,
+    Unknown,
+}
+
+// What a request returns: 0 or a number of document 01, the bytes used, and the length of the reply.
+pub struct Answer {
+    pub number: u64,
+    pub used: usize,
+    pub reply: usize,
+}
