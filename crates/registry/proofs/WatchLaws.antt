@@ -11,7 +11,7 @@ use lib.ListN.{length, getD}
 use borrow.Author.Tests.{ltb-true}
 use Rattle.key.specs.Bytes.{Bytes}
 use Rattle.key.specs.Keys.{Key}
-use Rattle.key.proofs.Tests.{neither}
+use Rattle.key.proofs.Bytes.{neither}
 use Rattle.resp.specs.Request.{Reading, waits, faulty, tooMany, whole, readRequest, spanned}
 use Rattle.resp.specs.Reply.{Reply, Error, NilArray, encode}
 use Rattle.memtable.specs.Table.{keysOf, lastWrites}

@@ -1,1 +1,4 @@
 // The published calls: opening a store, a request, a group.
+
+pub mod group;
+pub mod open;

@@ -1,0 +1,5 @@
+pub mod AmountLaws
+pub mod ArgumentLaws
+pub mod MeaningLaws
+pub mod NameLaws
+pub mod OptionLaws

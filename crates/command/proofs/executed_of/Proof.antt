@@ -1,0 +1,43 @@
+-- `command::executed_of` meets its contract. The row that the look-up finds is the name's. Assumes nothing.
+use Rattle.server.proofs.Queueing.{arguments-count}
+use Rattle.command.proofs.NameLaws.{right-named, right-count, wrong-count}
+use borrow.Author.Needs.{needs}
+use Rattle.command.proofs.executed_of.Statement.{statement}
+use Rattle.command.proofs.executed_of.Tie as tie
+
+argument-requires : tie.Need-argument-requires
+argument-requires c κs = search needs
+
+look-up-requires : tie.Need-look-up-requires
+look-up-requires c κs = search needs
+
+sub-count-right : tie.Need-sub-count-right
+sub-count-right c = search needs
+
+count-right-requires : tie.Need-count-right-requires
+count-right-requires c κs = search needs
+
+name-at-requires : tie.Need-name-at-requires
+name-at-requires c κs = search needs
+
+named-requires : tie.Need-named-requires
+named-requires c κs = search right-named
+
+returns : tie.Need-returns
+returns c = search (right-count, arguments-count)
+
+returns-2 : tie.Need-returns-2
+returns-2 c = search (wrong-count, arguments-count)
+
+pub executed-of-spec : {M : Type 1} → statement M
+executed-of-spec =
+    tie.close
+    (tie.spec
+    argument-requires
+    look-up-requires
+    sub-count-right
+    count-right-requires
+    name-at-requires
+    named-requires
+    returns
+    returns-2)

@@ -1,0 +1,4 @@
+pub mod Matching
+pub mod Ranging
+pub mod Rests
+pub mod Scanning

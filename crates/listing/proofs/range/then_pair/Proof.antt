@@ -1,0 +1,20 @@
+-- `listing::range::then_pair` meets its contract. Assumes nothing.
+use Rattle.writing.proofs.Puts.{then-adds}
+use borrow.Author.Needs.{needs}
+use Rattle.listing.proofs.range.then_pair.Statement.{statement}
+use Rattle.listing.proofs.range.then_pair.Tie as tie
+
+then-bulk-requires : tie.Need-then-bulk-requires
+then-bulk-requires c κs = search needs
+
+then-bulk-requires-2 : tie.Need-then-bulk-requires-2
+then-bulk-requires-2 c κs = search needs
+
+same-length : tie.Need-same-length
+same-length c = search needs
+
+returns : tie.Need-returns
+returns c = search then-adds
+
+pub then-pair-spec : {M : Type 1} → statement M
+then-pair-spec = tie.close (tie.spec then-bulk-requires then-bulk-requires-2 same-length returns)

@@ -1,0 +1,23 @@
+-- `listing::scan::cursor` meets its contract. Assumes nothing.
+use Rattle.listing.proofs.Scanning.{cursor-none, cursor-more}
+use borrow.Author.Needs.{needs}
+use Rattle.listing.proofs.scan.cursor.Statement.{statement}
+use Rattle.listing.proofs.scan.cursor.Tie as tie
+
+next-live-requires : tie.Need-next-live-requires
+next-live-requires c κs = search needs
+
+enum-told : tie.Need-enum-told
+enum-told c = search needs
+
+enum-told-2 : tie.Need-enum-told-2
+enum-told-2 c = search needs
+
+returns : tie.Need-returns
+returns c = search cursor-none
+
+returns-2 : tie.Need-returns-2
+returns-2 c = search cursor-more
+
+pub cursor-spec : {M : Type 1} → statement M
+cursor-spec = tie.close (tie.spec next-live-requires enum-told enum-told-2 returns returns-2)

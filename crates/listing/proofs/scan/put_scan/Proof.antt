@@ -1,0 +1,47 @@
+-- `listing::scan::put_scan` meets its contract. Assumes nothing.
+use Rattle.listing.proofs.Scanning.{scan-answer}
+use Rattle.listing.proofs.Matching.{seen-fits}
+use borrow.Author.Needs.{needs}
+use Rattle.listing.proofs.scan.put_scan.Statement.{statement}
+use Rattle.listing.proofs.scan.put_scan.Tie as tie
+
+skip-requires : tie.Need-skip-requires
+skip-requires c κs = search needs
+
+count-matches-requires : tie.Need-count-matches-requires
+count-matches-requires c κs = search needs
+
+add-cursor : tie.Need-add-cursor
+add-cursor c = search needs
+
+cursor-requires : tie.Need-cursor-requires
+cursor-requires c κs = search needs
+
+put-head-requires : tie.Need-put-head-requires
+put-head-requires c κs = search needs
+
+then-bulk-digits-requires : tie.Need-then-bulk-digits-requires
+then-bulk-digits-requires c κs = search needs
+
+then-matches-requires : tie.Need-then-matches-requires
+then-matches-requires c κs = search seen-fits
+
+same-length : tie.Need-same-length
+same-length c = search needs
+
+returns : tie.Need-returns
+returns c = search scan-answer
+
+pub put-scan-spec : {M : Type 1} → statement M
+put-scan-spec =
+    tie.close
+    (tie.spec
+    skip-requires
+    count-matches-requires
+    add-cursor
+    cursor-requires
+    put-head-requires
+    then-bulk-digits-requires
+    then-matches-requires
+    same-length
+    returns)

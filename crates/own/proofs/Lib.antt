@@ -1,0 +1,8 @@
+pub mod ArgumentLaws
+pub mod Growing
+pub mod LastWrites
+pub mod Lists
+pub mod Places
+pub mod PutLaws
+pub mod Readers
+pub mod RowLaws

@@ -1,0 +1,4 @@
+pub mod Arguments
+pub mod Counters
+pub mod Seeing
+pub mod ValueReplies

@@ -1,0 +1,66 @@
+-- `reading::values::put_values` meets its contract. The invariant: the values from place i on are still to be written, `ValuesFrom`. Assumes nothing.
+use Prim.Native.Nat.{_-_}
+use native.Mathlib.Omega.{arith}
+use Rattle.own.specs.Own.{readerOf}
+use Rattle.reading.proofs.Arguments.{argument-in}
+use Rattle.reading.proofs.ValueReplies.{ValuesFrom, values-none, values-more, values-all, values-length}
+use borrow.Author.Needs.{needs}
+use Rattle.reading.proofs.values.put_values.Statement.{statement}
+use Rattle.reading.proofs.values.put_values.Tie as tie
+
+abbrev Inv-loop : tie.InvT-loop
+Inv-loop out₀ own n «data» words bytes seq input places from to put₀ i₀ out put i = ValuesFrom (readerOf own «data» n words bytes seq) places input from to i put₀ out₀ put out
+
+abbrev μ-loop : tie.MeasureT-loop
+μ-loop out₀ own n «data» words bytes seq input places from to put₀ i₀ out put i = to - i
+
+sub-put-head : tie.Need-sub-put-head Inv-loop μ-loop
+sub-put-head c = search needs
+
+put-head-requires : tie.Need-put-head-requires Inv-loop μ-loop
+put-head-requires c κs = search needs
+
+loop-holds : tie.Need-loop-holds Inv-loop μ-loop
+loop-holds c = search values-none
+
+mul-key-part : tie.Need-mul-key-part Inv-loop μ-loop
+mul-key-part c = search needs
+
+key-part-requires : tie.Need-key-part-requires Inv-loop μ-loop
+key-part-requires c κs = search argument-in
+
+then-value-requires : tie.Need-then-value-requires Inv-loop μ-loop
+then-value-requires c κs = search needs
+
+add-i : tie.Need-add-i Inv-loop μ-loop
+add-i c = search needs
+
+loop-less : tie.Need-loop-less Inv-loop μ-loop
+loop-less c = search needs
+
+loop-again : tie.Need-loop-again Inv-loop μ-loop
+loop-again c = values-more (c .before .before .before .before .before .before .loop .inv) _ (omega arith) (c .before .before .before .before .key-part .ensures) (c .before .before .then-value .ensures)
+
+same-length : tie.Need-same-length Inv-loop μ-loop
+same-length c = search values-length
+
+returns : tie.Need-returns Inv-loop μ-loop
+returns c = search values-all
+
+pub put-values-spec : {M : Type 1} → statement M
+put-values-spec =
+    tie.close
+    (tie.spec
+    Inv-loop
+    μ-loop
+    sub-put-head
+    put-head-requires
+    loop-holds
+    mul-key-part
+    key-part-requires
+    then-value-requires
+    add-i
+    loop-less
+    loop-again
+    same-length
+    returns)

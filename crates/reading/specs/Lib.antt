@@ -1,0 +1,2 @@
+pub mod Raise
+pub mod See

@@ -1,0 +1,48 @@
+// Counters: the number that a key holds, and the number that it is raised to.
+use crate::Raised;
+use crate::Seen;
+use crate::see;
+use memtable::read;
+use number::Number;
+use number::integer;
+ghost use mathlib.Core.Path.{_≡_};
+ghost use Rattle.key.specs.Keys.{Key};
+ghost use Rattle.memtable.specs.Rows.{Valid};
+ghost use Rattle.server.specs.Command.{held, raised};
+ghost use Rattle.own.specs.Own.{Own, readerOf};
+ghost use Rattle.reading.specs.Raise.{raisedEffect};
+
+// The number that `name` holds: 0 where it is absent.
+pub fn held_number(
+    own: &[u64],
+    n: usize,
+    data: &[u8],
+    words: &[u64],
+    bytes: &[u8],
+    seq: u64,
+    name: &[u8],
+) -> Number
+    requires { ⌜ Own (now own) (now «data») n ⌝ }
+    requires { ⌜ Valid (now words) (now bytes) ⌝ }
+    ensures { λ r. ⌜ r ≡ held (readerOf (now (own .entry)) (now («data» .entry)) n (now (words .entry)) (now (bytes .entry)) seq (now (name .entry))) ⌝ }
+{
+    let seen = see::see(own, n, data, words, bytes, seq, name);
+    match seen {
+        Seen::Written(j) => integer::int_arg(see::written_value(own, data, j)),
+        Seen::Stored(i) => integer::int_arg(read::value_of(words, bytes, i)),
+        Seen::Absent => Number::Int(0),
+    }
+}
+
+// A counter that holds `held`, raised.
+pub fn raised_by(held: Number, by: i64) -> Raised
+    ensures { λ r. ⌜ ((k : Key) → raisedEffect k r ≡ raised k by held) ⌝ }
+{
+    let Number::Int(number) = held else {
+        return Raised::NotInteger;
+    };
+    let Number::Int(sum) = integer::checked_sum(number, by) else {
+        return Raised::Overflow;
+    };
+    Raised::To(sum)
+}

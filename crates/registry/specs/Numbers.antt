@@ -1,0 +1,11 @@
+-- The number of a group call, from what its parts are.
+use Prim.Native.Nat.{ℕ}
+use mathlib.Core.Bool.{Bool, cond}
+use mathlib.Core.List.{List}
+use lib.Dec.{leb}
+use Rattle.key.specs.Bytes.{Bytes, _and_}
+use Rattle.memtable.specs.Layout.{validStore}
+
+-- 9, then 8: above 64 members, verdict bytes fewer than members, or a part outside its buffer
+unfoldable pub groupNumber : Bool → ℕ → ℕ → List ℕ → Bytes → ℕ
+groupNumber inside members verdicts w b = cond (validStore w b) (cond (leb members 64 and leb members verdicts and inside) 0 8) 9

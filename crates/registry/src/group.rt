@@ -1,0 +1,57 @@
+// A group of members, judged and committed in one call.
+use batch::Member;
+use batch::group;
+use memtable::valid;
+ghost use mathlib.Core.Path.{_≡_};
+ghost use Prim.Native.Nat.{_<_};
+ghost use lib.ListN.{length};
+ghost use Rattle.memtable.specs.Layout.{lastWord};
+ghost use Rattle.registry.specs.Calls.{GroupPromise};
+ghost use Rattle.registry.specs.Numbers.{groupNumber};
+
+// The number that a group call returns: 9, then 8, or 0. `inside` says that no part lies outside its buffer.
+fn number(inside: bool, members: usize, verdicts: usize, words: &[u64], bytes: &[u8]) -> u64
+    ensures { λ r. ⌜ r ≡ groupNumber inside members verdicts (now (words .entry)) (now (bytes .entry)) ⌝ }
+{
+    if valid::validate(words, bytes) {
+        if 64 < members {
+            return 8;
+        }
+        if verdicts < members {
+            return 8;
+        }
+        if inside {
+            return 0;
+        }
+        return 8;
+    }
+    9
+}
+
+// The last sequence of a store.
+fn last(words: &[u64]) -> u64
+    requires { ⌜ 2 < length (now words) ⌝ }
+    ensures { λ r. ⌜ r ≡ lastWord (now (words .entry)) ⌝ }
+{
+    words[2]
+}
+
+// Judges a group and commits the accepted members: 0, or 8 or 9, which leave all. A verdict byte is written for each member.
+pub fn group(
+    members: &[Member],
+    parts: &[u64],
+    data: &[u8],
+    verdicts: &mut [u8],
+    words: &mut [u64],
+    bytes: &mut [u8],
+) -> u64
+    ensures { λ r. ⌜ GroupPromise (now (members .entry)) (now (parts .entry)) (now («data» .entry)) (now (verdicts .entry)) (now (words .entry)) (now (bytes .entry)) r (now (verdicts .exit)) (now (words .exit)) (now (bytes .exit)) ⌝ }
+{
+    let inside = group::members_inside(members, parts, data);
+    let number = number(inside, members.len(), verdicts.len(), words, bytes);
+    if number == 0 {
+        let began = last(words);
+        group::settle_all(members, began, parts, data, words, bytes, verdicts);
+    }
+    number
+}
