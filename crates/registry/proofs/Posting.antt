@@ -12,9 +12,10 @@ use lib.ListN.{length, getD, set, length-set, getD-replicate}
 use lib.Seq.{getD-set-same, getD-set-other}
 use borrow.Author.Tests.{ltb-true, eqb-true}
 use Rattle.key.specs.Bytes.{Bytes}
+use Rattle.key.specs.Keys.{Key}
 use Rattle.resp.specs.Request.{readRequest}
 use Rattle.memtable.specs.Table.{Table}
-use Rattle.memtable.specs.Versions.{Store, table}
+use Rattle.memtable.specs.Versions.{Store, moved, table}
 use Rattle.memtable.specs.Layout.{emptyStore}
 use Rattle.batch.specs.declared.Member.{Member}
 use Rattle.batch.specs.Group.{Pending, among, group}
@@ -25,9 +26,10 @@ use Rattle.server.specs.Finish.{Served}
 use Rattle.registry.specs.Serve.{Outcome, answered, refused}
 use Rattle.registry.specs.Calls.{Lent, valid, storeOf, sessionOf, Called, leaveServed, request-call, Call, request, grouped, call, outcomes, final}
 use Rattle.registry.specs.Posting.{Item, Desk, closed, turnAsked, askedBy, Entered, enter, history, closedDesks, post, postAll, AllHold}
-use Rattle.registry.specs.Demand3.{Opened, itemsOf, Claim, StaysValid}
+use Rattle.registry.specs.Demand3.{Opened, itemsOf, Claim, writtenIn, StaysValid}
+use Rattle.registry.proofs.MovedLaws.{no-keys}
 use Rattle.registry.proofs.FollowLaws.{Mirrors, closed-clear}
-use Rattle.registry.proofs.ServeLaws.{serve-kept, serve-follows}
+use Rattle.registry.proofs.ServeLaws.{usedBy, serve-kept, serve-used, serve-follows}
 use Rattle.registry.proofs.LentLaws.{Valid, valid-parts, session-good, Leaves, servedBy, request-served, request-refused, request-leaves, judged-leaves, eqb-differs, group-judged, group-refused}
 use Rattle.registry.proofs.GroupLaws.{group-follows}
 
@@ -53,6 +55,8 @@ pub record StepFollows (l : Lent) (e : Entered) (l′ : Lent) : Type 0 where
   pub tables : postAll (e .items) (table (storeOf l .versions)) ≡ table (storeOf l′ .versions)
   pub holds : AllHold (e .items) (table (storeOf l .versions))
   pub desks : Desks l′ (e .desks)
+  pub quiet : e .items ≡ [] → storeOf l′ ≡ storeOf l
+  pub moves : (k : Key) → among (writtenIn (e .items) (table (storeOf l .versions))) k ≡ true → moved (storeOf l .last) (storeOf l′ .versions) k ≡ true
 
 module _ (l : Lent) (ds : List Desk) (ok : valid l ≡ true) (g : Desks l ds) where
   answer-entered : (i : ℕ) (input : Bytes) (places room : ℕ) (o : Outcome) → eqb (o .number) 0 ≡ true
@@ -69,7 +73,7 @@ module _ (l : Lent) (ds : List Desk) (ok : valid l ≡ true) (g : Desks l ds) wh
 
   unentered : (l′ : Lent) → valid l′ ≡ true → storeOf l′ ≡ storeOf l → Desks l′ ds → StepFollows l (record { desks = ds; items = [] }) l′
   unfolding postAll
-  unentered l′ fit st k = record { fit = fit; tables = ap (λ (x : Store). table (x .versions)) (sym st); holds = tt; desks = k }
+  unentered l′ fit st k = record { fit = fit; tables = ap (λ (x : Store). table (x .versions)) (sym st); holds = tt; desks = k; quiet = λ e. st; moves = λ k h. no-keys _ k h }
 
   module _ (i : ℕ) (input : Bytes) (places room : ℕ) (h : i < 16) where
     abbrev d : Served
@@ -122,6 +126,8 @@ module _ (l : Lent) (ds : List Desk) (ok : valid l ≡ true) (g : Desks l ds) wh
               tables = f .tables ∙ ap (λ (x : Store). table (x .versions)) (sym (left .store));
               holds = f .holds;
               desks = renewed _ (f .desk);
+              quiet = λ e. left .store ∙ f .quiet e;
+              moves = λ k e. rw (left .store) (f .moves k e);
             })
 
   request-follows : (i : ℕ) (input : Bytes) (places room : ℕ) → StepFollows l (enter (request i input places room) (call (request i input places room) l .outcome) ds) (call (request i input places room) l .lent)
@@ -155,6 +161,8 @@ module _ (l : Lent) (ds : List Desk) (ok : valid l ≡ true) (g : Desks l ds) wh
             tables = unfold enter in (f .tables ∙ ap (λ (x : Store). table (x .versions)) (sym (q .store)));
             holds = unfold enter in f .holds;
             desks = unfold enter in record { sixteen = g .sixteen; mirrors = λ j k. rw (q .sessions j) (g .mirrors j k) };
+            quiet = unfold enter in λ e. q .store ∙ f .quiet e;
+            moves = unfold enter in λ k e. rw (q .store) (f .moves k e);
           })
 
   pub step-follows : (c : Call) → StepFollows l (enter c (call c l .outcome) ds) (call c l .lent)
@@ -223,6 +231,16 @@ request-number i input places room l ok = go (ltb i 16) refl
         let v = valid-parts l ok in
         rw (request-served i input places room l h ok) (serve-kept (storeOf l) (sessionOf i l) (v .sound) (session-good l v i h) places room input .small)
     go false p = rw (request-refused i input places room l p) (omega arith)
+
+-- a request uses the bytes that were read as one, whatever the state
+pub request-used : (i : ℕ) (input : Bytes) (places room : ℕ) (l : Lent) → i < 16 → valid l ≡ true → call (request i input places room) l .outcome .number ≡ 0
+    → call (request i input places room) l .outcome .used ≡ usedBy input (readRequest places input)
+unfolding call
+request-used i input places room l h ok e =
+    let v = valid-parts l ok in
+    let s = request-served i input places room l h ok in
+    ap (λ (x : Called). x .outcome .used) s
+    ∙ serve-used (storeOf l) (sessionOf i l) (v .sound) (session-good l v i h) places room input (ap (λ (x : Called). x .outcome .number) (sym s) ∙ e)
 
 pub group-number : (ms : List Member) (parts : List ℕ) (text verdicts : Bytes) (l : Lent) → valid l ≡ true
     → call (grouped ms parts text verdicts) l .outcome .number ≡ cond (groupFits parts text ms verdicts) 0 8

@@ -1,19 +1,19 @@
 -- Demand 1 holds of the definitions: a returned number comes with no bytes used, no reply, and all left, save the mark of a full queue.
-use Prim.Native.Nat.{ℕ, zero, suc, _≤_}
+use Prim.Native.Nat.{ℕ, _-_, _≤_}
 use mathlib.Core.Bool.{Bool, true, false, cond}
 use mathlib.Core.List.{List, [], _∷_, map}
 use mathlib.Core.Option.{Option, none, some}
 use mathlib.Core.Path.{_≡_, refl, ap, _∙_}
-use lib.Dec.{leb, ltb, eqb}
-use lib.ListN.{length}
+use lib.Dec.{leb, ltb}
+use lib.ListN.{length, replicate}
 use mathlib.Core.Logic.{_⊎_, inl, inr}
 use native.Mathlib.Omega.{arith}
 use borrow.Author.Tests.{ne-eqb}
-use Rattle.key.specs.Bytes.{Bytes}
+use Rattle.key.specs.Bytes.{Bytes, over-front}
 use Rattle.resp.specs.Request.{Reading, waits, faulty, tooMany, whole, readRequest, spanned}
-use Rattle.resp.specs.Reply.{Reply, encode}
+use Rattle.resp.specs.Reply.{encode}
 use Rattle.memtable.specs.Versions.{Store, readAt}
-use Rattle.memtable.specs.Layout.{validStore}
+use Rattle.memtable.specs.Layout.{buffersHold, validStore}
 use Rattle.batch.specs.declared.Member.{Member}
 use Rattle.batch.specs.declared.Verdict.{Verdict}
 use Rattle.batch.specs.declared.Verdict.the-variants.{Accepted, Conflict, NoRoom, NoSequence, NotTaken}
@@ -21,16 +21,16 @@ use Rattle.batch.specs.Group.{plain, conflicts, hasRoom, hasSequences, heldKeys
 use Rattle.batch.specs.Members.{groupFits}
 use Rattle.server.specs.Names.{Args, Row, rowOf, nameWord, arguments, countRight, Control, MULTI, EXEC, DISCARD, WATCH, UNWATCH, QUIT, other, controlOf}
 use Rattle.server.specs.Command.{Executed, runs, lists, Effect, executedOf, run}
-use Rattle.server.specs.Session.{Session, Result, number, reply, Done, Decision, says, returns, marked, committed, direct, watching, watchFits, addKeys, watchOr, outsideMulti, enqueue, queueFits, decide, apply, execute, insideMulti, respondBy, respond}
-use Rattle.server.specs.Finish.{Served, silent, fitted, finishBy, finish}
-use Rattle.registry.specs.Serve.{serveReading, serve, answered}
-use Rattle.registry.specs.Calls.{Lent, valid, storeOf, sessionOf, leaveSession, leaveServed, refuses, refusesStore, request-call, group-call}
+use Rattle.server.specs.Session.{Session, Result, number, reply, Done, Decision, returns, marked, committed, direct, watching, watchFits, addKeys, watchOr, outsideMulti, enqueue, queueFits, decide, apply, execute, insideMulti, respondBy, respond}
+use Rattle.server.specs.Finish.{Served, silent, fitted, finishBy, finish, replyBuffer}
+use Rattle.registry.specs.Serve.{serveReading, serve, Outcome, refused, answered}
+use Rattle.registry.specs.Calls.{Lent, valid, storeOf, sessionOf, leaveSession, leaveServed, refuses, refusesStore, open-call, request-call, group-call, verdictBuffer}
 use Rattle.registry.proofs.CallLaws.{tested, no-session, not-valid, served, not-valid-store, not-fit, is-judged}
-use Rattle.registry.specs.Demand1.{Refusal, RequestRefused, Refusals}
+use Rattle.registry.specs.Demand1.{Refusal, RequestRefused, StoreRefused, Refusals}
 
 -- what a number of a session's request promises
 abbrev FitBy : Result → Session → Session → Type 0
-FitBy (number n) after s = (n ≤ 9) × (n ≡ 4 → after ≡ marked s)
+FitBy (number n) after s = (n ≤ 7) × (n ≡ 4 → after ≡ marked s)
 FitBy (reply r) after s = Unit {0}
 
 abbrev Fit : Done → Session → Type 0
@@ -103,14 +103,14 @@ respond-fit a st s = respond-by-fit (s .queue) (rowOf (nameWord a)) a st s
 record Refused (d : Served) (s : Session) : Type 0 where
   used : d .used ≡ 0
   reply : d .reply ≡ []
-  nine : d .number ≤ 9
+  seven : d .number ≤ 7
   mark : d .number ≡ 4 → d .session ≡ marked s
 
 abbrev Good : Served → Session → Type 0
 Good d s = (d .number ≡ 0 → ⊥) → Refused d s
 
-silent-good : (n : ℕ) (st : Store) (after s : Session) → n ≤ 9 → (n ≡ 4 → after ≡ marked s) → Good (silent n 0 st after) s
-silent-good n st after s h m = λ _. record { used = refl; reply = refl; nine = h; mark = m }
+silent-good : (n : ℕ) (st : Store) (after s : Session) → n ≤ 7 → (n ≡ 4 → after ≡ marked s) → Good (silent n 0 st after) s
+silent-good n st after s h m = λ _. record { used = refl; reply = refl; seven = h; mark = m }
 
 fitted-by-good : (b : Bool) (d e : Served) (s : Session) → d .number ≡ 0 → Good e s → Good (cond b d e) s
 fitted-by-good true d e s z p = λ h. absurd (h z)
@@ -137,6 +137,18 @@ unfolding serve
 serve-good places room input st s = reading-good room input (readRequest places input) st s
 
 -- THE CALLS.
+refusal-of : (o : Outcome) → (o .number ≡ 0 → ⊥) → o .number ≤ 9 → o .used ≡ 0 → o .reply ≡ [] → o .verdicts ≡ [] → Refusal o
+unfolding replyBuffer verdictBuffer over-front
+refusal-of o z n u r v = record {
+  one = omega arith;
+  nine = n;
+  used = u;
+  reply = r;
+  buffer = λ room. let e : room - 0 ≡ room = omega arith in rw r (ap (λ (n : ℕ). replicate n 0) e);
+  verdicts = v;
+  verdictBytes = λ b. rw v;
+}
+
 leave-other : (i : ℕ) (d : Served) (l : Lent) → (d .number ≡ 0 → ⊥) → (d .number ≡ 4 → ⊥) → leaveServed i d l ≡ l
 unfolding leaveServed
 leave-other i d l h k = simp (ne-eqb (d .number) 0 h, ne-eqb (d .number) 4 k)
@@ -150,14 +162,16 @@ served-refused : (i : ℕ) (l : Lent) (d : Served) → Good d (sessionOf i l) �
 served-refused i l d g h =
     let r : Refused d (sessionOf i l) = g h in
     record {
-      refusal = record { used = r .used; reply = r .reply; verdicts = refl; nine = r .nine };
+      refusal = refusal-of (answered d) h (omega (arith, r .seven)) (r .used) (r .reply) refl;
+      number = λ k. omega (arith, r .seven);
       left = λ k. leave-other i d l h k;
       mark = λ k. leave-mark i d l k ∙ ap (λ x. leaveSession i x l) (r .mark k);
     }
 
-number-refused : (i n : ℕ) (l : Lent) → n ≤ 9 → (n ≡ 4 → ⊥) → RequestRefused i l (refuses n l)
-number-refused i n l h k = record {
-  refusal = record { used = refl; reply = refl; verdicts = refl; nine = h };
+number-refused : (i n : ℕ) (l : Lent) → (n ≡ 0 → ⊥) → n ≤ 9 → (n ≡ 8 → ⊥) → (n ≡ 4 → ⊥) → RequestRefused i l (refuses n l)
+number-refused i n l z h e k = record {
+  refusal = refusal-of (refused n) z h refl refl refl;
+  number = e;
   left = λ _. refl;
   mark = λ e. absurd (k e);
 }
@@ -165,25 +179,36 @@ number-refused i n l h k = record {
 module _ (i : ℕ) (s : Bytes) (places room : ℕ) (l : Lent) where
   request-refused : (ltb i 16 ≡ true) ⊎ (ltb i 16 ≡ false) → (valid l ≡ true) ⊎ (valid l ≡ false) →
       (request-call i s places room l .outcome .number ≡ 0 → ⊥) → RequestRefused i l (request-call i s places room l)
-  request-refused (inr e) v h = rw (no-session i s places room l e) (number-refused i 1 l (omega arith) (λ k. absurd (omega arith)))
-  request-refused (inl e) (inr v) h = rw (not-valid i s places room l e v) (number-refused i 9 l (omega arith) (λ k. absurd (omega arith)))
+  request-refused (inr e) v h =
+      rw (no-session i s places room l e) (number-refused i 1 l (λ k. omega arith) (omega arith) (λ k. omega arith) (λ k. omega arith))
+  request-refused (inl e) (inr v) h =
+      rw (not-valid i s places room l e v) (number-refused i 9 l (λ k. omega arith) (omega arith) (λ k. omega arith) (λ k. omega arith))
   request-refused (inl e) (inl v) h =
       rw (served i s places room l e v)
       (served-refused i l (serve places room s (storeOf l) (sessionOf i l)) (serve-good places room s (storeOf l) (sessionOf i l)) (rw (served i s places room l e v) at h))
 
-module _ (ms : List Member) (parts : List ℕ) (d v : Bytes) (w : List ℕ) (b : Bytes) where
-  store-refused : (n : ℕ) → n ≤ 9 → Refusal (refusesStore n w b .outcome) × (refusesStore n w b .words ≡ w) × (refusesStore n w b .bytes ≡ b)
-  store-refused n h = (record { used = refl; reply = refl; verdicts = refl; nine = h }, refl, refl)
+store-refused : (n : ℕ) (w : List ℕ) (b : Bytes) → (n ≡ 0 → ⊥) → n ≤ 9 → StoreRefused w b (refusesStore n w b)
+store-refused n w b z h = record { refusal = refusal-of (refused n) z h refl refl refl; words = refl; bytes = refl }
 
+module _ (last versions size : ℕ) (w : List ℕ) (b : Bytes) where
+  opening-refused : (t : Bool) → buffersHold w b versions size ≡ t → (open-call last versions size w b .outcome .number ≡ 0 → ⊥) →
+      StoreRefused w b (open-call last versions size w b) × (open-call last versions size w b .outcome .number ≡ 9)
+  unfolding open-call
+  opening-refused true e h = absurd ((rw e at h) refl)
+  opening-refused false e h = rw e (store-refused 9 w b (λ k. omega arith) (omega arith), refl)
+
+module _ (ms : List Member) (parts : List ℕ) (d v : Bytes) (w : List ℕ) (b : Bytes) where
   group-refused : (validStore w b ≡ true) ⊎ (validStore w b ≡ false) → (groupFits parts d ms v ≡ true) ⊎ (groupFits parts d ms v ≡ false) →
       (group-call ms parts d v w b .outcome .number ≡ 0 → ⊥) →
-      Refusal (group-call ms parts d v w b .outcome) × (group-call ms parts d v w b .words ≡ w) × (group-call ms parts d v w b .bytes ≡ b)
-  group-refused (inr e) f h = rw (not-valid-store ms parts d v w b e) (store-refused 9 (omega arith))
-  group-refused (inl e) (inr f) h = rw (not-fit ms parts d v w b e f) (store-refused 8 (omega arith))
+      StoreRefused w b (group-call ms parts d v w b)
+      × ((group-call ms parts d v w b .outcome .number ≡ 8) ⊎ (group-call ms parts d v w b .outcome .number ≡ 9))
+  group-refused (inr e) f h = rw (not-valid-store ms parts d v w b e) (store-refused 9 w b (λ k. omega arith) (omega arith), inr refl)
+  group-refused (inl e) (inr f) h = rw (not-fit ms parts d v w b e f) (store-refused 8 w b (λ k. omega arith) (omega arith), inl refl)
   group-refused (inl e) (inl f) h = absurd ((rw (is-judged ms parts d v w b e f) at h) refl)
 
 pub refusals : Refusals
 refusals = record {
+  opens = λ last versions size w b h. opening-refused last versions size w b (buffersHold w b versions size) refl h;
   requests = λ i s places room l h. request-refused i s places room l (tested (ltb i 16)) (tested (valid l)) h;
   groups = λ ms parts d v w b h. group-refused ms parts d v w b (tested (validStore w b)) (tested (groupFits parts d ms v)) h;
 }

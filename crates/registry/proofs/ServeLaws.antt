@@ -28,6 +28,13 @@ pub record ServeKept (st : Store) (s : Session) (v : Served) : Type 0 where
   pub small : v .number ≤ 7
   pub numbers : (v .number ≡ 0 → ⊥) → (v .store ≡ st) × ((v .number ≡ 4) ⊎ (v .session ≡ s)) × (v .session .queue ≡ s .queue) × (v .session .watch ≡ s .watch)
 
+-- a wait uses no byte, a protocol error all, a request its own
+abbrev pub usedBy : Bytes → Reading → ℕ
+usedBy input waits = 0
+usedBy input tooMany = 0
+usedBy input (faulty f) = length input
+usedBy input (whole ps used) = used
+
 module _ (st : Store) (s : Session) (sound : Sound st) (good : SessionSound (st .last) s) where
   silent-kept : (n used : ℕ) → n ≤ 7 → ServeKept st s (silent n used st s)
   silent-kept n used k = record { store = record { sound = sound; later = later-refl st }; session = good; watch = renewed-same st (s .watch); small = k; numbers = λ h. (refl, inr refl, refl, refl) }
@@ -55,6 +62,32 @@ module _ (st : Store) (s : Session) (sound : Sound st) (good : SessionSound (st 
   pub serve-kept : (places room : ℕ) (input : Bytes) → ServeKept st s (serve places room input st s)
   unfolding serve
   serve-kept places room input = reading-kept room input (readRequest places input)
+
+  -- THE BYTES USED, by the reading alone
+  finish-used : (room used : ℕ) (d : Done) → Kept st s d → finish room used d st s .number ≡ 0 → finish room used d st s .used ≡ used
+  unfolding finish
+  finish-used room used d k = go (d .result) (k .numbers)
+    where
+      fits : (b : Bytes) (t : Bool) → cond {A = Served} t (record { number = 0; used = used; reply = b; store = d .store; session = d .session }) (silent 3 0 st s) .number ≡ 0
+          → cond {A = Served} t (record { number = 0; used = used; reply = b; store = d .store; session = d .session }) (silent 3 0 st s) .used ≡ used
+      fits b true e = refl
+      fits b false e = absurd (omega arith)
+
+      go : (r : Result) → Refuses st s d r → finishBy r room used d st s .number ≡ 0 → finishBy r room used d st s .used ≡ used
+      go (number n) h = unfold finishBy in λ z. absurd (omega (arith, h .0, z))
+      go (reply r) h = unfold finishBy fitted in fits (encode r) (leb (length (encode r)) room)
+
+  reading-used : (room : ℕ) (input : Bytes) (x : Reading) → serveReading room input x st s .number ≡ 0 → serveReading room input x st s .used ≡ usedBy input x
+  unfolding serveReading
+  reading-used room input waits e = refl
+  reading-used room input tooMany e = absurd (omega arith)
+  reading-used room input (faulty f) e = finish-used room (length input) _ (says-kept st s sound good _ clear (clear-sound (st .last)) tt) e
+  reading-used room input (whole [] used) e = refl
+  reading-used room input (whole (p ∷ ps) used) e = finish-used room used _ (respond-kept st s sound good (spanned input p) (map (spanned input) ps)) e
+
+  pub serve-used : (places room : ℕ) (input : Bytes) → serve places room input st s .number ≡ 0 → serve places room input st s .used ≡ usedBy input (readRequest places input)
+  unfolding serve
+  serve-used places room input = reading-used room input (readRequest places input)
 
   -- POSTING, by what was asked and answered
   module _ (d : Desk) (m : Mirrors d s) where

@@ -14,8 +14,8 @@ use Rattle.key.specs.Keys.{Key}
 use Rattle.key.proofs.Bytes.{neither}
 use Rattle.resp.specs.Request.{Reading, waits, faulty, tooMany, whole, readRequest, spanned}
 use Rattle.resp.specs.Reply.{Reply, Error, NilArray, encode}
-use Rattle.memtable.specs.Table.{keysOf, lastWrites}
-use Rattle.memtable.specs.Versions.{Store, moved}
+use Rattle.memtable.specs.Table.{Table, keysOf, lastWrites}
+use Rattle.memtable.specs.Versions.{Store, moved, table}
 use Rattle.memtable.proofs.VersionLaws.{moved-above, above-moved, Later, later-refl}
 use Rattle.batch.specs.declared.Verdict.{Verdict}
 use Rattle.batch.specs.declared.Verdict.the-variants.{Accepted, Conflict, NoRoom, NoSequence, NotTaken}
@@ -29,13 +29,13 @@ use Rattle.server.specs.Session.{Watching, Session, Result, number, reply, Done
 use Rattle.server.proofs.SessionLaws.{WatchHolds, Renewed, renewed-same, ranBy, memberBy, exec-calm, ends, execute-failed, execute-ends}
 use Rattle.server.specs.Finish.{Served, silent, fitted, finishBy, finish}
 use Rattle.registry.specs.Serve.{serveReading, serve, Outcome, answered}
-use Rattle.registry.specs.Calls.{Lent, valid, storeOf, sessionOf, Called, leaveServed, request-call, Call, request, grouped, call}
-use Rattle.registry.specs.Posting.{askedBy, isArray, Desk, closed, enter, closedDesks}
-use Rattle.registry.specs.Demand3.{isExec, asksExec, Accepts, staleAfter, NoStaleExec, WatchClaim}
+use Rattle.registry.specs.Calls.{Lent, valid, storeOf, sessionOf, Called, leaveServed, request-call, Call, request, grouped, call, outcomes}
+use Rattle.registry.specs.Posting.{askedBy, isArray, Desk, closed, enter, closedDesks, postAll}
+use Rattle.registry.specs.Demand3.{isExec, asksExec, Accepts, staleAfter, NoStaleExec, WatchClaim, writtenIn, staleIn, NoStalePosted, PostedWatchClaim}
 use Rattle.registry.proofs.ReplyLaws.{error-no-array, nil-array-no-array}
 use Rattle.registry.proofs.ServeLaws.{serve-kept}
 use Rattle.registry.proofs.LentLaws.{valid-parts, session-good, Leaves, servedBy, request-served, request-refused, request-leaves, judged-leaves, group-judged, group-refused}
-use Rattle.registry.proofs.Posting.{Desks, step-follows, opened-desks}
+use Rattle.registry.proofs.Posting.{Desks, step-follows, opened-desks, opened-table}
 
 -- AN EXEC ANSWERED BY AN ARRAY met no conflict: no watched key has moved since the snapshot.
 module _ (st : Store) (s : Session) where
@@ -214,17 +214,47 @@ module _ (k : Key) where
               (subst (λ (b : Bool). Late (storeOf l′) (watchAt l′) (b && (stale || moved (storeOf l .last) (storeOf l′ .versions) k))) (sym same) late),
         )
 
+    -- the same by posting: a key that it writes has moved
+    weaker : (c b d x : Bool) → (b ≡ true → x ≡ true) → (c && (d || b)) ≡ true → (c && (d || x)) ≡ true
+    weaker true true true x f e = refl
+    weaker true true false x f e = f refl
+    weaker true false true x f e = refl
+    weaker true false false x f e = absurd (false≢true e)
+    weaker false b d x f e = e
+
+    no-stale-posted : (cs : List Call) (l : Lent) (ds : List Desk) (t : Table) (stale : Bool) → valid l ≡ true → Desks l ds → t ≡ table (storeOf l .versions)
+        → Late (storeOf l) (watchAt l) stale → NoStalePosted i k cs (outcomes cs l) ds t stale
+    unfolding outcomes
+    no-stale-posted [] l ds t stale ok g same h = tt
+    no-stale-posted (c ∷ cs) l ds t stale ok g same h =
+        let f = step-follows l ds ok g c in
+        let m = call-moves c l ok in
+        let l′ = call c l .lent in
+        let e = enter c (call c l .outcome) ds in
+        let v = valid-parts l ok in
+        let watched : among (getD (e .desks) i closed .watched) k ≡ among (watchedKeys (watchAt l′)) k = f .desks .mirrors i inside .watched k in
+        let late = late-step (storeOf l) (storeOf l′) (watchAt l) (watchAt l′) stale (m .later) (m .renewed) (read-bound (storeOf l) (watchAt l) (session-good l v i inside .watch)) h in (
+          accepts-fresh c l stale ok h,
+          no-stale-posted cs l′ (e .desks) (postAll (e .items) t) (staleIn i k e t stale) (f .fit) (f .desks) (ap (postAll (e .items)) same ∙ f .tables)
+              (λ z. late (weaker (among (watchedKeys (watchAt l′)) k) (among (writtenIn (e .items) t) k) stale (moved (storeOf l .last) (storeOf l′ .versions) k) (λ y. f .moves k (rw same at y)) (rw watched at z))),
+        )
+
   -- a session above 15 gets no array
+  never-accepts : (i : ℕ) → ltb i 16 ≡ false → (l : Lent) (c : Call) → Accepts i c (call c l .outcome) → ⊥
+  never-accepts i e l (grouped ms parts text verdicts) a = a
+  never-accepts i e l (request j input places room) a =
+      let n : request-call i input places room l .outcome .number ≡ 1 = ap (λ (x : Called). x .outcome .number) (request-refused i input places room l e) in
+      let z : request-call i input places room l .outcome .number ≡ 0 = ap (λ (m : ℕ). request-call m input places room l .outcome .number) (sym (a .0)) ∙ (unfold call in a .1) in
+      omega (arith, n, z)
+
   no-session : (i : ℕ) → ltb i 16 ≡ false → (cs : List Call) (l : Lent) (ds : List Desk) (stale : Bool) → NoStaleExec i k cs l ds stale
   no-session i e [] l ds stale = tt
-  no-session i e (c ∷ cs) l ds stale = (λ s a. never c a, no-session i e cs _ _ _)
-    where
-      never : (c : Call) → Accepts i c (call c l .outcome) → ⊥
-      never (grouped ms parts text verdicts) a = a
-      never (request j input places room) a =
-          let n : request-call i input places room l .outcome .number ≡ 1 = ap (λ (x : Called). x .outcome .number) (request-refused i input places room l e) in
-          let z : request-call i input places room l .outcome .number ≡ 0 = ap (λ (m : ℕ). request-call m input places room l .outcome .number) (sym (a .0)) ∙ (unfold call in a .1) in
-          omega (arith, n, z)
+  no-session i e (c ∷ cs) l ds stale = (λ s a. never-accepts i e l c a, no-session i e cs _ _ _)
+
+  no-session-posted : (i : ℕ) → ltb i 16 ≡ false → (cs : List Call) (l : Lent) (ds : List Desk) (t : Table) (stale : Bool) → NoStalePosted i k cs (outcomes cs l) ds t stale
+  unfolding outcomes
+  no-session-posted i e [] l ds t stale = tt
+  no-session-posted i e (c ∷ cs) l ds t stale = (λ s a. never-accepts i e l c a, no-session-posted i e cs _ _ _ _)
 
 pub no-exec-after-move : WatchClaim
 no-exec-after-move cs l o i k = go (ltb i 16) refl
@@ -232,3 +262,10 @@ no-exec-after-move cs l o i k = go (ltb i 16) refl
     go : (b : Bool) → ltb i 16 ≡ b → NoStaleExec i k cs l closedDesks false
     go true p = no-stale k i (ltb-true i 16 p) cs l closedDesks false (o .fit) (opened-desks l o) (λ e. absurd (false≢true e))
     go false p = no-session k i p cs l closedDesks false
+
+pub no-exec-after-write : PostedWatchClaim
+no-exec-after-write cs l o i k = go (ltb i 16) refl
+  where
+    go : (b : Bool) → ltb i 16 ≡ b → NoStalePosted i k cs (outcomes cs l) closedDesks [] false
+    go true p = no-stale-posted k i (ltb-true i 16 p) cs l closedDesks [] false (o .fit) (opened-desks l o) (sym (opened-table l o)) (λ e. absurd (false≢true e))
+    go false p = no-session-posted k i p cs l closedDesks [] false

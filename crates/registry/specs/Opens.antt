@@ -9,9 +9,9 @@ use Rattle.server.specs.Finish.{fitted, finishBy, finish, replyBuffer}
 use Rattle.registry.specs.Serve.{protocolError, serveReading, serve, openState, requestOn}
 use Rattle.registry.specs.Calls.{valid, leaveStore, leaveSession, open-call, leaveServed, request-call, group-call, verdictBuffer, call, outcomes, final}
 use Rattle.registry.specs.Posting.{askedBy, isArray, turnExec, turnBy, turnAsked, acceptedIn, enter, history, closedDesks, postQueue, post, postAll, checksOf, liveCovered, uncovered}
-use Rattle.registry.specs.Demand3.{increment, sumQueue, sum, setKeys}
+use Rattle.registry.specs.Demand3.{increment, sumQueue, sum, setKeys, increments, itemKeys, writtenIn, desksAfter, without, toOthers}
 use Rattle.registry.specs.Frames.{openConsole, closes, requests, held-rest, hexValue, joinHex, unhex, hexDigit, hex, givenOf, given, shown, answerGiven, frame, frames}
 
 unfoldable pub registry-opens : Unit {0}
-unfolding key-opens number-opens resp-opens memtable-opens batch-opens server-opens fitted finishBy finish protocolError serveReading serve openState replyBuffer requestOn valid leaveStore leaveSession open-call leaveServed request-call group-call verdictBuffer call outcomes final askedBy isArray turnExec turnBy turnAsked acceptedIn enter history closedDesks postQueue post postAll checksOf liveCovered uncovered increment sumQueue sum setKeys openConsole closes requests held-rest hexValue joinHex unhex hexDigit hex givenOf given shown answerGiven frame frames
+unfolding key-opens number-opens resp-opens memtable-opens batch-opens server-opens fitted finishBy finish protocolError serveReading serve openState replyBuffer requestOn valid leaveStore leaveSession open-call leaveServed request-call group-call verdictBuffer call outcomes final askedBy isArray turnExec turnBy turnAsked acceptedIn enter history closedDesks postQueue post postAll checksOf liveCovered uncovered increment sumQueue sum setKeys increments itemKeys writtenIn desksAfter without toOthers openConsole closes requests held-rest hexValue joinHex unhex hexDigit hex givenOf given shown answerGiven frame frames
 registry-opens = tt
