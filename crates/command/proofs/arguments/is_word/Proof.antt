@@ -19,17 +19,17 @@ loop-holds c = search alike-none
 returns : tie.Need-returns Inv-loop μ-loop
 returns c = search word-short
 
-shared-slice-read-capital : tie.Need-shared-slice-read-capital Inv-loop μ-loop
-shared-slice-read-capital c = search needs
+shared-slice-read-upper-byte : tie.Need-shared-slice-read-upper-byte Inv-loop μ-loop
+shared-slice-read-upper-byte c = search needs
 
-capital-requires : tie.Need-capital-requires Inv-loop μ-loop
-capital-requires c κs = search needs
+upper-byte-requires : tie.Need-upper-byte-requires Inv-loop μ-loop
+upper-byte-requires c κs = search needs
 
 shared-slice-read-if2 : tie.Need-shared-slice-read-if2 Inv-loop μ-loop
 shared-slice-read-if2 c = search needs
 
 returns-2 : tie.Need-returns-2 Inv-loop μ-loop
-returns-2 c = other-here (c .before .before .before .before .before .before .loop .inv) (c .before .before .before .before .if1 .left) (c .before .before .before .before .before .loop-test .taken) (λ e. c .if2 .taken (c .before .before .capital .ensures ∙ e))
+returns-2 c = other-here (c .before .before .before .before .before .before .loop .inv) (c .before .before .before .before .if1 .left) (c .before .before .before .before .before .loop-test .taken) (λ e. c .if2 .taken (c .before .before .upper-byte .ensures ∙ e))
 
 add-j : tie.Need-add-j Inv-loop μ-loop
 add-j c = search needs
@@ -38,7 +38,7 @@ loop-less : tie.Need-loop-less Inv-loop μ-loop
 loop-less c = search needs
 
 loop-again : tie.Need-loop-again Inv-loop μ-loop
-loop-again c = alike-more (c .before .before .before .before .before .before .loop .inv) (c .before .before .before .before .if1 .left) (c .before .before .before .before .before .loop-test .taken) (sym (c .before .before .capital .ensures) ∙ c .if2 .left)
+loop-again c = alike-more (c .before .before .before .before .before .before .loop .inv) (c .before .before .before .before .if1 .left) (c .before .before .before .before .before .loop-test .taken) (sym (c .before .before .upper-byte .ensures) ∙ c .if2 .left)
 
 returns-3 : tie.Need-returns-3 Inv-loop μ-loop
 returns-3 c = search word-long
@@ -54,8 +54,8 @@ is-word-spec =
     μ-loop
     loop-holds
     returns
-    shared-slice-read-capital
-    capital-requires
+    shared-slice-read-upper-byte
+    upper-byte-requires
     shared-slice-read-if2
     returns-2
     add-j
