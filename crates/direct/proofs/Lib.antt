@@ -1,0 +1,6 @@
+pub mod Commands
+pub mod Commits
+pub mod Lengths
+pub mod Reading
+pub mod Served
+pub mod Writes

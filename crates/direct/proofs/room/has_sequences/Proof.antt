@@ -1,0 +1,26 @@
+use Rattle.batch.proofs.Committed.{sequences-out, sequences-left}
+use borrow.Author.Needs.{needs}
+use Rattle.direct.proofs.room.has_sequences.Statement.{statement}
+use Rattle.direct.proofs.room.has_sequences.Tie as tie
+use Rattle.direct.proofs.room.has_sequences.Reads as reads
+use Rattle.direct.proofs.room.has_sequences.Lts as lts
+use Rattle.memtable.proofs.commit.wide.Reads as wide-reads
+
+-- src/room.rt:50:8
+sub-if1 : tie.Need-sub-if1
+sub-if1 c = search needs
+
+-- src/room.rt:50:38
+wide-requires : tie.Need-wide-requires
+wide-requires c κs = search needs
+
+-- src/room.rt:51:9
+returns : tie.Need-returns
+returns c = search sequences-out
+
+-- src/room.rt:47:1
+returns-2 : tie.Need-returns-2
+returns-2 c = search sequences-left
+
+pub has-sequences-spec : {M : Type 1} → statement M
+has-sequences-spec = tie.close (tie.spec sub-if1 wide-requires returns returns-2)

@@ -1,0 +1,67 @@
+use Rattle.direct.proofs.Writes.{verdict-short, verdict-full, verdict-accepted, verdict-no-sequence}
+use borrow.Author.Needs.{needs}
+use Rattle.direct.proofs.room.verdict_for.Statement.{statement}
+use Rattle.direct.proofs.room.verdict_for.Tie as tie
+use Rattle.direct.proofs.room.verdict_for.Reads as reads
+use Rattle.direct.proofs.room.verdict_for.Lts as lts
+use Rattle.direct.proofs.room.has_sequences.Reads as has-sequences-reads
+use Rattle.memtable.proofs.read.word.Reads as word-reads
+
+enum-told : tie.Need-enum-told
+enum-told c = search needs
+
+-- src/room.rt:62:9
+enum-told-2 : tie.Need-enum-told-2
+enum-told-2 c = search needs
+
+-- src/room.rt:62:9
+returns : tie.Need-returns
+returns c = search verdict-short
+
+-- src/room.rt:64:8
+word-requires : tie.Need-word-requires
+word-requires c κs = search needs
+
+-- src/room.rt:64:31
+word-requires-2 : tie.Need-word-requires-2
+word-requires-2 c κs = search needs
+
+-- src/room.rt:64:8
+sub-if1 : tie.Need-sub-if1
+sub-if1 c = search needs
+
+-- src/room.rt:65:9
+returns-2 : tie.Need-returns-2
+returns-2 c = search verdict-full
+
+-- src/room.rt:67:22
+shared-slice-read-has-sequences : tie.Need-shared-slice-read-has-sequences
+shared-slice-read-has-sequences c = search needs
+
+-- src/room.rt:67:8
+has-sequences-requires : tie.Need-has-sequences-requires
+has-sequences-requires c κs = search needs
+
+-- src/room.rt:68:9
+returns-3 : tie.Need-returns-3
+returns-3 c = search verdict-accepted
+
+-- src/room.rt:57:1
+returns-4 : tie.Need-returns-4
+returns-4 c = search verdict-no-sequence
+
+pub verdict-for-spec : {M : Type 1} → statement M
+verdict-for-spec =
+    tie.close
+    (tie.spec
+    enum-told
+    enum-told-2
+    returns
+    word-requires
+    word-requires-2
+    sub-if1
+    returns-2
+    shared-slice-read-has-sequences
+    has-sequences-requires
+    returns-3
+    returns-4)

@@ -1,0 +1,4 @@
+pub mod Direct
+pub mod Reading
+pub mod Served
+pub mod Writes

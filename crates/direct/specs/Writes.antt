@@ -1,0 +1,63 @@
+-- The writes of a command outside MULTI: room for them, and what the verdict and the reply make of the call.
+use Prim.Native.Nat.{ℕ, _+_, _*_, _^_, _≤_, _<_}
+use mathlib.Core.Bool.{cond}
+use mathlib.Core.List.{List, map}
+use lib.Dec.{leb, ltb}
+use lib.ListN.{length, getD}
+use Rattle.key.specs.Bytes.{Bytes, part}
+use Rattle.key.specs.Keys.{Key}
+use Rattle.writing.specs.declared.Put.{Put}
+use Rattle.memtable.specs.declared.open.Left.{Left}
+use Rattle.memtable.specs.declared.open.Left.the-variants.{Rest, Short}
+use Rattle.memtable.specs.Table.{Write}
+use Rattle.memtable.specs.Versions.{writesSize}
+use Rattle.memtable.specs.Layout.{countWord, usedWord, lastWord, mostVersionsWord, mostBytesWord}
+use Rattle.batch.specs.declared.Verdict.{Verdict}
+use Rattle.batch.specs.declared.Verdict.the-variants.{Accepted, Conflict, NoRoom, NoSequence, NotTaken}
+use Rattle.batch.specs.Group.{verdictByte}
+use Rattle.server.specs.declared.Answer.{Answer}
+use Rattle.answer.specs.Answers.{refusal, putAnswer}
+use Rattle.server.specs.Command.{tombstone, put, pairsOf}
+use Rattle.server.specs.Places.{argumentsAt}
+
+-- the argument at place k
+abbrev pub argumentIn : List ℕ → Bytes → ℕ → Key
+argumentIn places input k = part (getD places (2 * k) 0) (getD places (2 * k + 1) 0) input
+
+-- the argument at place k lies in the bytes
+pub record ArgumentIn (places : List ℕ) (input : Bytes) (k : ℕ) : Type 0 where
+  pub words-in : 2 * k + 1 < length places
+  pub inside : getD places (2 * k) 0 + getD places (2 * k + 1) 0 ≤ length input
+
+-- the tombstones of DEL for `count` keys
+unfoldable pub tombstonesAt : ℕ → ℕ → List ℕ → Bytes → List Write
+tombstonesAt from count places input = map tombstone (argumentsAt from count places input)
+
+-- the writes of SET and MSET for `pairs` keys and values in turn
+unfoldable pub pairsAt : ℕ → ℕ → List ℕ → Bytes → List Write
+pairsAt from pairs places input = map put (pairsOf (argumentsAt from (2 * pairs) places input))
+
+-- room for these writes, and sequences
+pub record RoomForAll (w : List ℕ) (ws : List Write) : Type 0 where
+  pub rows-free : countWord w + length ws ≤ mostVersionsWord w
+  pub bytes-free : usedWord w + writesSize ws ≤ mostBytesWord w
+  pub seqs-free : lastWord w + length ws < 2 ^ 64
+
+-- the header of a valid store
+pub record HeaderIn (w : List ℕ) : Type 0 where
+  pub header-in : 5 ≤ length w
+  pub count-fits : countWord w ≤ mostVersionsWord w
+  pub used-fits : usedWord w ≤ mostBytesWord w
+
+-- the verdict of `writes` writes, by what their bytes leave of the free ones
+unfoldable pub verdictLeft : List ℕ → ℕ → Left → Verdict
+verdictLeft w writes (Rest n) = cond (leb (countWord w + writes) (mostVersionsWord w)) (cond (ltb (lastWord w + writes) (2 ^ 64)) Accepted NoSequence) NoRoom
+verdictLeft w writes Short = NoRoom
+
+-- 6 and 7 come before 3
+unfoldable pub verdictAnswer : Verdict → Put → ℕ → Answer
+verdictAnswer Accepted put used = putAnswer put used
+verdictAnswer Conflict put used = refusal (verdictByte Conflict)
+verdictAnswer NoRoom put used = refusal (verdictByte NoRoom)
+verdictAnswer NoSequence put used = refusal (verdictByte NoSequence)
+verdictAnswer NotTaken put used = refusal (verdictByte NotTaken)

@@ -1,0 +1,344 @@
+#!/usr/bin/env python3
+"""Writes the files under samples/, always the same.
+
+mixed-N.in       generated input (fixed seeds) that meets no number; mixed-N.out is the Rust's output
+groups.in        group scripts (fixed seed) within capacities; groups.out is the Rust's output
+group-limits.in  group scripts that meet 6, 7 and 8; group-limits.out is the model's output
+limits.in        each limit reached exactly and one beyond, in one run; limits.out is the model's output
+published.in     published examples; published.out is what the pages say, byte for byte (published.md lists the sources)
+
+frames_rust must have been built (rust/build.sh). The script stops if the Rust, the model and the published bytes disagree.
+"""
+
+import os
+import random
+import re
+import subprocess
+import sys
+
+import generate
+import model
+from generate import array_bytes, frame_lines, inline_bytes
+
+HERE = os.path.dirname(os.path.abspath(__file__))
+RUST = os.path.join(HERE, "rust", "frames_rust")
+RUST_GROUPS = os.path.join(HERE, "rust", "groups_rust")
+LINES = 500
+MIXED = [
+    (41, {"count": 2, "odd": 0.1, "transact": 0.3, "split": 0.1}),
+    (42, {"count": 3, "odd": 0.1, "transact": 0.6, "split": 0.0}),
+    (43, {"count": 4, "odd": 0.1, "transact": 0.3, "split": 0.3}),
+    (44, {"count": 16, "odd": 0.1, "transact": 0.3, "split": 0.1}),
+]
+
+
+def text_of(lines):
+    return b"".join(line + b"\n" for line in lines)
+
+
+def rust(lines, program=RUST):
+    return model.lines_of(subprocess.run([program], input=text_of(lines), stdout=subprocess.PIPE, check=True).stdout)
+
+
+def models(lines):
+    return model.lines_of(model.answer_frames(text_of(lines)))
+
+
+def write(name, lines):
+    with open(os.path.join(HERE, "samples", name), "wb") as f:
+        f.write(text_of(lines))
+
+
+def must(condition, text):
+    if not condition:
+        sys.exit(text)
+
+
+# Every answer that the mixed samples must show at least once, as a pattern over replies
+WANTED = [
+    rb"\+OK", rb"\+PONG", rb"\+QUEUED", rb":\d+", rb":-\d+", rb"\$-1", rb"\$0\r\n", rb"\*-1", rb"\*0\r\n", rb"\*[1-9]", rb"-EXECABORT ",
+    rb"-ERR unknown command '", rb"-ERR '.*' can't be used inside MULTI", rb"-ERR value is not an integer or out of range", rb"-ERR syntax error",
+    rb"-ERR increment or decrement would overflow", rb"-ERR invalid cursor", rb"-ERR LIMIT must be a non-negative integer",
+    rb"-ERR SET options \(EX, NX, \.\.\.\) are not supported", rb"-ERR EXEC without MULTI", rb"-ERR DISCARD without MULTI",
+    rb"-ERR MULTI calls can not be nested", rb"-ERR WATCH inside MULTI is not allowed", rb"invalid multibulk length '", rb"invalid multibulk length\r",
+    rb"multibulk length \d+ is over the limit of 1048576", rb"invalid bulk length '", rb"invalid bulk length\r", rb"expected '\$', got '",
+    rb"bulk length \d+ is over the limit of 67108864", rb"bulk string not followed by CRLF", rb"\xef\xbf\xbd",
+] + [
+    b"wrong number of arguments for '%s' command" % name
+    for name in b"get set del exists mget mset incr incrby decr ping echo dbsize keys scan range watch".split()
+]
+
+
+def mixed():
+    shown = b""
+    for number, (seed, fixed) in enumerate(MIXED, 1):
+        found = generate.Mixed(random.Random(f"sample {seed}"), LINES, **fixed).run(numbers=False)
+        answers = rust(found)
+        must(answers == models(found), f"mixed-{number}: the model and the Rust differ")
+        write(f"mixed-{number}.in", found)
+        write(f"mixed-{number}.out", answers)
+        shown += b"".join(bytes.fromhex(m[1].decode()) for line in answers if (m := re.fullmatch(rb"\d\d ([0-9a-f]+)!?", line)))
+        print(f"mixed-{number}: {len(found)} lines")
+    for pattern in WANTED:
+        must(re.search(pattern, shown), f"no sample shows {pattern}")
+
+
+def limits():
+    """The runs of `generate.py limits` that leave most of the store free, one behind the other; then the store is filled."""
+    lines = []
+    part = re.compile(r"session|frame|rest|array|inline|count|QUIT|words|2 leaves|queued|cannot be queued|4 and|watch|named twice|5 leaves|MGET reply \+[01]$|EXEC reply \+[01]$")
+    for name, run in generate.limit_runs():
+        if part.search(name) and not re.search(r"\b(63|31|511|8191|2047|1023)\b|bytes left|versions,", name):
+            lines += run + frame_lines(0, b"\nQUIT\n") + frame_lines(1, b"\nQUIT\n")
+    store = model.Frames()
+    for line in lines:
+        store.line(line)
+    left = 1024 - len(store.registry.store.versions)
+    must(0 < left and store.registry.store.bytes_used() < 30000, "the store is full too early")
+    # one version left, then none
+    for at in range(0, left - 1, 50):
+        lines += frame_lines(0, inline_bytes([b"DEL"] + [b"%d" % i for i in range(at, min(at + 50, left - 1))]))
+    for step in (
+        b"MSET a 1 b 2\n", b"DEL a a\n", b"MULTI\nSET a 1\nSET b 2\nEXEC\n", b"DISCARD\n", b"WATCH a\nMULTI\nSET a 1\nSET a 2\nEXEC\n", b"SET a 3\n", b"GET a\n",
+        b"INCR a\n", b"SET s x\n", b"INCRBY a x\n", b"INCRBY a 9223372036854775807\n", b"DEL zz\n", b"MULTI\nGET a\nEXEC\n", b"MULTI\nINCR a\nEXEC\n", b"EXEC\n",
+        b"DISCARD\n", b"MULTI\nFOO\nSET a 4\nEXEC\n", b"DBSIZE\n", b"MGET a b s\n",
+    ):
+        lines += frame_lines(0, step)
+    write("limits.in", lines)
+    write("limits.out", models(lines))
+    print(f"limits: {len(lines)} lines")
+
+
+def groups():
+    for name, count in (("groups", 25), ("group-limits", 25)):
+        lines = [line for _, run in generate.runs_of(name, 41, count) for line in run]
+        answers = model.lines_of(model.answer_groups(text_of(lines)))
+        if name == "groups":
+            must(answers == rust(lines, RUST_GROUPS), "groups: the model and the Rust differ")
+        write(f"{name}.in", lines)
+        write(f"{name}.out", answers)
+        print(f"{name}: {len(lines)} lines")
+
+
+RESP = "RESP protocol specification"
+COMMANDS = "Redis command page "
+TRANSACTIONS = "Redis page on transactions"
+
+
+def bulk_text(text):
+    return b"$%d\r\n%s\r\n" % (len(text), text)
+
+
+def say(*words):
+    return array_bytes(list(words))
+
+
+# Source, and steps of session, request, reply. The pages show requests as typed or as bytes, and replies as bytes or as redis-cli prints them
+# (`(integer) 2` is `:2`, `"Hello"` a bulk string, `(nil)` the null bulk string, `1) .. 2) ..` an array).
+PUBLISHED = [
+    (f"{RESP}, inline commands: PING", [(0, b"PING\r\n", b"+PONG\r\n")]),
+    (f"{RESP}, inline commands: EXISTS somekey", [(0, b"EXISTS somekey\r\n", b":0\r\n")]),
+    (f"{RESP}, simple errors: unknown command 'asdf'", [(0, b"asdf\r\n", b"-ERR unknown command 'asdf'\r\n")]),
+    (f"{RESP}, bulk strings: the encoding of `hello` and of the empty string", [(0, say(b"ECHO", b"hello"), b"$5\r\nhello\r\n"), (0, say(b"ECHO", b""), b"$0\r\n\r\n")]),
+    (f"{RESP}, null bulk strings: GET of a key that does not exist", [(0, say(b"GET", b"nokey"), b"$-1\r\n")]),
+    (
+        f"{RESP}, arrays: `hello` and `world`; an array with a null element; the empty array",
+        [
+            (0, say(b"MSET", b"one", b"hello", b"two", b"world"), b"+OK\r\n"),
+            (0, say(b"MGET", b"one", b"two"), b"*2\r\n$5\r\nhello\r\n$5\r\nworld\r\n"),
+            (0, say(b"MGET", b"one", b"nokey", b"two"), b"*3\r\n$5\r\nhello\r\n$-1\r\n$5\r\nworld\r\n"),
+            (0, say(b"KEYS", b"nokey"), b"*0\r\n"),
+            (0, say(b"DEL", b"one", b"two"), b":2\r\n"),
+        ],
+    ),
+    (
+        f"{RESP}, integers: the encodings of 0 and 1000",
+        [(0, say(b"EXISTS", b"n"), b":0\r\n"), (0, say(b"INCRBY", b"n", b"1000"), b":1000\r\n"), (0, say(b"DEL", b"n"), b":1\r\n")],
+    ),
+    (
+        "Redis page on bulk loading: SET key value as bytes",
+        [(0, b"*3\r\n$3\r\nSET\r\n$3\r\nkey\r\n$5\r\nvalue\r\n", b"+OK\r\n"), (0, say(b"GET", b"key"), bulk_text(b"value")), (0, say(b"DEL", b"key"), b":1\r\n")],
+    ),
+    ("Redis page on pipelining: three PINGs in one packet", [(0, b"PING\r\nPING\r\nPING\r\n", b"+PONG\r\n+PONG\r\n+PONG\r\n")]),
+    (COMMANDS + "PING", [(0, b"PING\r\n", b"+PONG\r\n"), (0, say(b"PING", b"hello world"), bulk_text(b"hello world"))]),
+    (COMMANDS + "ECHO", [(0, say(b"ECHO", b"Hello World!"), bulk_text(b"Hello World!"))]),
+    (
+        COMMANDS + "GET",
+        [(0, b"GET nonexisting\r\n", b"$-1\r\n"), (0, say(b"SET", b"mykey", b"Hello"), b"+OK\r\n"), (0, b"GET mykey\r\n", bulk_text(b"Hello")), (0, b"DEL mykey\r\n", b":1\r\n")],
+    ),
+    (COMMANDS + "SET", [(0, say(b"SET", b"mykey", b"Hello"), b"+OK\r\n"), (0, b"GET mykey\r\n", bulk_text(b"Hello")), (0, b"DEL mykey\r\n", b":1\r\n")]),
+    (
+        COMMANDS + "DEL",
+        [(0, say(b"SET", b"key1", b"Hello"), b"+OK\r\n"), (0, say(b"SET", b"key2", b"World"), b"+OK\r\n"), (0, b"DEL key1 key2 key3\r\n", b":2\r\n")],
+    ),
+    (
+        COMMANDS + "EXISTS",
+        [
+            (0, say(b"SET", b"key1", b"Hello"), b"+OK\r\n"),
+            (0, b"EXISTS key1\r\n", b":1\r\n"),
+            (0, b"EXISTS nosuchkey\r\n", b":0\r\n"),
+            (0, say(b"SET", b"key2", b"World"), b"+OK\r\n"),
+            (0, b"EXISTS key1 key2 nosuchkey\r\n", b":2\r\n"),
+            (0, b"DEL key1 key2\r\n", b":2\r\n"),
+        ],
+    ),
+    (
+        COMMANDS + "MGET",
+        [
+            (0, say(b"SET", b"key1", b"Hello"), b"+OK\r\n"),
+            (0, say(b"SET", b"key2", b"World"), b"+OK\r\n"),
+            (0, b"MGET key1 key2 nonexisting\r\n", b"*3\r\n" + bulk_text(b"Hello") + bulk_text(b"World") + b"$-1\r\n"),
+            (0, b"DEL key1 key2\r\n", b":2\r\n"),
+        ],
+    ),
+    (
+        COMMANDS + "MSET",
+        [
+            (0, say(b"MSET", b"key1", b"Hello", b"key2", b"World"), b"+OK\r\n"),
+            (0, b"GET key1\r\n", bulk_text(b"Hello")),
+            (0, b"GET key2\r\n", bulk_text(b"World")),
+            (0, b"DEL key1 key2\r\n", b":2\r\n"),
+        ],
+    ),
+    (
+        COMMANDS + "INCR",
+        [(0, b"SET mykey 10\r\n", b"+OK\r\n"), (0, b"INCR mykey\r\n", b":11\r\n"), (0, b"GET mykey\r\n", bulk_text(b"11")), (0, b"DEL mykey\r\n", b":1\r\n")],
+    ),
+    (COMMANDS + "INCRBY", [(0, b"SET mykey 10\r\n", b"+OK\r\n"), (0, b"INCRBY mykey 5\r\n", b":15\r\n"), (0, b"DEL mykey\r\n", b":1\r\n")]),
+    (
+        COMMANDS + "DECR",
+        [
+            (0, b"SET mykey 10\r\n", b"+OK\r\n"),
+            (0, b"DECR mykey\r\n", b":9\r\n"),
+            (0, b"SET mykey 234293482390480948029348230948\r\n", b"+OK\r\n"),
+            (0, b"DECR mykey\r\n", b"-ERR value is not an integer or out of range\r\n"),
+            (0, b"DEL mykey\r\n", b":1\r\n"),
+        ],
+    ),
+    (
+        COMMANDS + "KEYS (the page's order of keys is not fixed; here ascending)",
+        [
+            (0, b"MSET firstname Jack lastname Stuntman age 35\r\n", b"+OK\r\n"),
+            (0, b"KEYS *name*\r\n", b"*2\r\n" + bulk_text(b"firstname") + bulk_text(b"lastname")),
+            (0, b"KEYS a??\r\n", b"*1\r\n" + bulk_text(b"age")),
+            (0, b"KEYS *\r\n", b"*3\r\n" + bulk_text(b"age") + bulk_text(b"firstname") + bulk_text(b"lastname")),
+            (0, b"DEL firstname lastname age\r\n", b":3\r\n"),
+        ],
+    ),
+    (
+        COMMANDS + "KEYS, supported glob-style patterns: h?llo matches hello, hallo and hxllo; h*llo matches hllo and heeeello",
+        [
+            (0, b"MSET hello 1 hallo 1 hxllo 1 hllo 1 heeeello 1\r\n", b"+OK\r\n"),
+            (0, b"KEYS h?llo\r\n", b"*3\r\n" + bulk_text(b"hallo") + bulk_text(b"hello") + bulk_text(b"hxllo")),
+            (0, b"KEYS h*llo\r\n", b"*5\r\n" + b"".join(map(bulk_text, (b"hallo", b"heeeello", b"hello", b"hllo", b"hxllo")))),
+            (0, b"DEL hello hallo hxllo hllo heeeello\r\n", b":5\r\n"),
+        ],
+    ),
+    (
+        f"{TRANSACTIONS}, usage",
+        [
+            (0, b"MULTI\r\n", b"+OK\r\n"),
+            (0, b"INCR foo\r\n", b"+QUEUED\r\n"),
+            (0, b"INCR bar\r\n", b"+QUEUED\r\n"),
+            (0, b"EXEC\r\n", b"*2\r\n:1\r\n:1\r\n"),
+            (0, b"DEL foo bar\r\n", b":2\r\n"),
+        ],
+    ),
+    (
+        f"{TRANSACTIONS}, discarding the command queue",
+        [
+            (0, b"SET foo 1\r\n", b"+OK\r\n"),
+            (0, b"MULTI\r\n", b"+OK\r\n"),
+            (0, b"INCR foo\r\n", b"+QUEUED\r\n"),
+            (0, b"DISCARD\r\n", b"+OK\r\n"),
+            (0, b"GET foo\r\n", bulk_text(b"1")),
+            (0, b"DEL foo\r\n", b":1\r\n"),
+        ],
+    ),
+    (
+        f"{TRANSACTIONS}, optimistic locking: WATCH mykey, GET, MULTI, SET, EXEC (with the values 1 and 2)",
+        [
+            (0, b"SET mykey 1\r\n", b"+OK\r\n"),
+            (0, b"WATCH mykey\r\n", b"+OK\r\n"),
+            (0, b"GET mykey\r\n", bulk_text(b"1")),
+            (0, b"MULTI\r\n", b"+OK\r\n"),
+            (0, b"SET mykey 2\r\n", b"+QUEUED\r\n"),
+            (0, b"EXEC\r\n", b"*1\r\n+OK\r\n"),
+            (0, b"GET mykey\r\n", bulk_text(b"2")),
+            (0, b"DEL mykey\r\n", b":1\r\n"),
+        ],
+    ),
+    (
+        f"{TRANSACTIONS}, optimistic locking: another client changes mykey between WATCH and EXEC, so EXEC answers the null reply",
+        [
+            (0, b"SET mykey 1\r\n", b"+OK\r\n"),
+            (0, b"WATCH mykey\r\n", b"+OK\r\n"),
+            (0, b"GET mykey\r\n", bulk_text(b"1")),
+            (1, b"SET mykey 5\r\n", b"+OK\r\n"),
+            (0, b"MULTI\r\n", b"+OK\r\n"),
+            (0, b"SET mykey 2\r\n", b"+QUEUED\r\n"),
+            (0, b"EXEC\r\n", b"*-1\r\n"),
+            (0, b"GET mykey\r\n", bulk_text(b"5")),
+            (0, b"DEL mykey\r\n", b":1\r\n"),
+        ],
+    ),
+    (
+        f"{TRANSACTIONS}, WATCH explained: when EXEC is called, all keys are unwatched",
+        [
+            (0, b"WATCH mykey\r\n", b"+OK\r\n"),
+            (0, b"MULTI\r\n", b"+OK\r\n"),
+            (0, b"EXEC\r\n", b"*0\r\n"),
+            (1, b"SET mykey 5\r\n", b"+OK\r\n"),
+            (0, b"MULTI\r\n", b"+OK\r\n"),
+            (0, b"INCR mykey\r\n", b"+QUEUED\r\n"),
+            (0, b"EXEC\r\n", b"*1\r\n:6\r\n"),
+            (0, b"DEL mykey\r\n", b":1\r\n"),
+        ],
+    ),
+    (
+        f"{TRANSACTIONS}, WATCH explained: UNWATCH without arguments flushes all watched keys",
+        [
+            (0, b"WATCH mykey\r\n", b"+OK\r\n"),
+            (1, b"SET mykey 5\r\n", b"+OK\r\n"),
+            (0, b"UNWATCH\r\n", b"+OK\r\n"),
+            (0, b"MULTI\r\n", b"+OK\r\n"),
+            (0, b"GET mykey\r\n", b"+QUEUED\r\n"),
+            (0, b"EXEC\r\n", b"*1\r\n" + bulk_text(b"5")),
+            (0, b"DEL mykey\r\n", b":1\r\n"),
+        ],
+    ),
+]
+
+
+def published():
+    given, wanted = [], []
+    notes = [
+        "# Published examples",
+        "",
+        "Lines of published.in and published.out, and where the requests and replies come from. A last DEL in an example only clears the",
+        "keys for the next one. Two sessions (00, 01) are two clients. Left out are examples that document 01 narrows (commands, options,",
+        "replies or texts that the Rust does not have or answers in another way).",
+        "",
+        "| Lines | Source |",
+        "|---|---|",
+    ]
+    for source, steps in PUBLISHED:
+        notes.append(f"| {len(given) + 1} to {len(given) + len(steps)} | {source} |")
+        for session, request, reply in steps:
+            given += frame_lines(session, request)
+            wanted.append(b"%02d %s" % (session, reply.hex().encode()))
+    for name, got in (("the Rust", rust(given)), ("the model", models(given))):
+        must(len(got) == len(wanted), f"published: {name} answers {len(got)} lines")
+        for line, (a, b) in enumerate(zip(got, wanted), 1):
+            must(a == b, f"published line {line}: {name} answers {a}, the page {b}")
+    write("published.in", given)
+    write("published.out", wanted)
+    write("published.md", [note.encode() for note in notes])
+    print(f"published: {len(PUBLISHED)} examples, {len(given)} lines")
+
+
+if __name__ == "__main__":
+    mixed()
+    limits()
+    groups()
+    published()

@@ -1,0 +1,132 @@
+#!/usr/bin/env python3
+"""Plants errors in the model, one at a time, and shows how much generated input it takes to tell each from the model.
+
+    mutants.py [SEED]
+
+Exit status 1 if one is never told apart.
+"""
+
+import os
+import sys
+import types
+
+import generate
+import model
+
+SOURCE = os.path.join(os.path.dirname(os.path.abspath(__file__)), "model.py")
+
+# A name, the text in model.py (it stands there once), what takes its place, and the mode that must show it
+PLANTED = [
+    ("only watched keys are checked", "for key in [k for k, _ in member.writes] + list(member.checks):", "for key in list(member.checks):", "mixed"),
+    ("counters are not checked", "checked.update(effect.checks)", "pass", "mixed"),
+    ("checks of a failed counter are dropped", "return Effect(NOT_INTEGER, [], [key])", "return Effect(NOT_INTEGER)", "mixed"),
+    ("tombstones are dropped from the newest", "(s for k, s, _ in self.versions if k == key)", "(s for k, s, v in self.versions if k == key and v is not None)", "mixed"),
+    ("a second WATCH renews the snapshot", "snapshot = self.store.last if session.snapshot is None else session.snapshot\n        return Step(OK", "snapshot = self.store.last\n        return Step(OK", "mixed"),
+    ("EXEC reads at the last sequence", "snapshot = self.store.last if session.snapshot is None else session.snapshot\n        own", "snapshot = self.store.last\n        own", "mixed"),
+    ("EXEC does not read its own writes", "own[key] if key in own else self.store.read(key, snapshot)", "self.store.read(key, snapshot)", "mixed"),
+    ("MULTI drops the watch", "session._replace(queue=(), failed=False)", "Session(queue=())", "mixed"),
+    ("EXEC without MULTI drops the watch", "return Step(err(name + b\" without MULTI\"), session)", "return Step(err(name + b\" without MULTI\"), CLEAR)", "mixed"),
+    ("DISCARD keeps the watch", "if name == b\"DISCARD\":\n            return Step(OK, CLEAR)", "if name == b\"DISCARD\":\n            return Step(OK, session._replace(queue=None, failed=False))", "mixed"),
+    ("a conflict keeps the watch", "return Step(array(None), CLEAR)", "return Step(array(None), session._replace(queue=None))", "mixed"),
+    ("an unknown name does not mark", "return Step(reply, session._replace(failed=True))", "return Step(reply, session)", "mixed"),
+    ("nested MULTI marks", "return Step(err(b\"MULTI calls can not be nested\"), session)", "return Step(err(b\"MULTI calls can not be nested\"), session._replace(failed=True))", "mixed"),
+    ("WATCH inside MULTI marks", "return Step(err(b\"WATCH inside MULTI is not allowed\"), session)", "return Step(err(b\"WATCH inside MULTI is not allowed\"), session._replace(failed=True))", "mixed"),
+    ("UNWATCH does nothing", "return Step(OK, session._replace(**UNWATCHED))", "return Step(OK, session)", "mixed"),
+    ("DEL counts a key once", "sum(1 for key in a if read(key) is not None)", "sum(1 for key in set(a) if read(key) is not None)", "mixed"),
+    ("DEL of an absent key writes nothing", "[(key, None) for key in a] if name == b\"DEL\" else []", "[(key, None) for key in a if read(key) is not None] if name == b\"DEL\" else []", "mixed"),
+    ("leading zeros are no number", "rb\"([+-]?)([0-9]+)\"", "rb\"([+-]?)(0|[1-9][0-9]*)\"", "mixed"),
+    ("+ is no sign", "rb\"([+-]?)([0-9]+)\"", "rb\"(-?)([0-9]+)\"", "mixed"),
+    ("+ is no sign of a length", "rb\"\\+?([0-9]+)\"", "rb\"([0-9]+)\"", "mixed"),
+    ("the smallest number is none", "return n if -(2**63) <= n < 2**63 else None", "return n if -(2**63) < n < 2**63 else None", "mixed"),
+    ("the smallest sum overflows", "if not -(2**63) <= held + by < 2**63:", "if not -(2**63) < held + by < 2**63:", "mixed"),
+    ("INCR writes the sum with +", "[(key, decimal(held + by))], [key])", "[(key, b\"+\" + decimal(held + by))], [key])", "mixed"),
+    ("RANGE includes its end", "start <= key < end]", "start <= key <= end]", "mixed"),
+    ("SCAN's cursor goes on at the end", "follows = cursor + most < len(table)", "follows = cursor + most <= len(table)", "mixed"),
+    ("SCAN counts matches", "looked_at = table[cursor : cursor + most]", "looked_at = [e for e in table[cursor:] if glob(pattern, e[0])][:most]", "mixed"),
+    ("the first COUNT counts", "most = whole_number(value)\n            if", "most = whole_number(value) if most == 10 else most\n            if", "mixed"),
+    ("? matches nothing too", "reached = {i + 1 for i in reached if i < len(name) and token in (ANY_BYTE, name[i])}", "reached = {i + 1 for i in reached if i < len(name) and token in (ANY_BYTE, name[i])} | (reached if token == ANY_BYTE else set())", "mixed"),
+    ("a last lone \\ matches nothing", "if byte == b\"\\\\\" and at + 1 < len(pattern):\n            at += 1\n            yield pattern[at]", "if byte == b\"\\\\\":\n            at += 1\n            yield pattern[at] if at < len(pattern) else -1", "mixed"),
+    ("stars take one byte", "for end in range(start, len(name) + 1)}", "for end in range(start + 1, len(name) + 1)}", "mixed"),
+    ("CR is kept in error text", "held.replace(b\"\\r\", b\" \").replace(b\"\\n\", b\" \")", "held.replace(b\"\\n\", b\" \")", "mixed"),
+    ("one U+FFFD for each byte", "b\"\".join(piece if good else REPLACEMENT", "b\"\".join(piece if good else REPLACEMENT * len(piece)", "mixed"),
+    ("surrogates are UTF-8", "((0xED, 0xED), [(0x80, 0x9F), TAIL])", "((0xED, 0xED), [TAIL, TAIL])", "mixed"),
+    ("two CRs are dropped", "line = line[:-1]\n", "line = line.rstrip(b\"\\r\")\n", "mixed"),
+    ("VT divides words", "rb\"[ \\t\\n\\f\\r]\"", "rb\"[ \\t\\n\\f\\r\\v]\"", "mixed"),
+    ("FF does not divide words", "rb\"[ \\t\\n\\f\\r]\"", "rb\"[ \\t\\n\\r]\"", "mixed"),
+    ("two bytes behind an argument are not looked at", "if data[end : end + 2] != b\"\\r\\n\":", "if False:", "mixed"),
+    ("a protocol error keeps the session", "step = Step(err(b\"Protocol error: \" + e.args[0]), CLEAR)", "step = Step(err(b\"Protocol error: \" + e.args[0]), self.sessions[index])", "mixed"),
+    ("QUIT keeps the session", "if name == b\"QUIT\":\n            return Step(OK, CLEAR)", "if name == b\"QUIT\":\n            return Step(OK, session)", "mixed"),
+    ("QUIT keeps the rest", "data = b\"\" if answer.closed else data[answer.used :]", "data = data[answer.used :]", "mixed"),
+    ("a rest of 4,097 bytes is kept", "if len(data) > FRAME_LIMIT and", "if len(data) > FRAME_LIMIT + 1 and", "limits"),
+    ("1,025 arguments are taken", "ARGUMENT_PLACES = 1024", "ARGUMENT_PLACES = 1025", "limits"),
+    ("replies of 32,769 bytes are taken", "REPLY_ROOM = 32768", "REPLY_ROOM = 32769", "limits"),
+    ("65 commands are queued", "QUEUE_BYTES = 64, 512, 8192", "QUEUE_BYTES = 65, 512, 8192", "limits"),
+    ("513 arguments are queued", "QUEUE_BYTES = 64, 512, 8192", "QUEUE_BYTES = 64, 513, 8192", "limits"),
+    ("8,193 bytes are queued", "QUEUE_BYTES = 64, 512, 8192", "QUEUE_BYTES = 64, 512, 8193", "limits"),
+    ("33 keys are watched", "WATCH_BYTES = 32, 2048", "WATCH_BYTES = 33, 2048", "limits"),
+    ("2,049 bytes are watched", "WATCH_BYTES = 32, 2048", "WATCH_BYTES = 32, 2049", "limits"),
+    ("4 does not mark", "if n.number == 4:", "if False:", "limits"),
+    ("1,025 versions are kept", "> self.max_versions or self.bytes_used()", "> self.max_versions + 1 or self.bytes_used()", "limits"),
+    ("32,769 bytes are kept", "self.bytes_used() + size > self.max_bytes", "self.bytes_used() + size > self.max_bytes + 1", "limits"),
+    ("6 comes before a conflict", "if member.read is not None:\n            for key", "if len(self.versions) + len(member.writes) > self.max_versions:\n            return 6\n        if member.read is not None:\n            for key", "limits"),
+    ("3 leaves no queue", "return Answer(3)", "self.sessions[index] = step.session\n            return Answer(3)", "limits"),
+    ("65,537 bytes make a line", "if lf - start > 65536:", "if lf - start > 65537:", "long"),
+    ("65,537 bytes without LF wait", "if len(data) - start > 65536:", "if len(data) - start > 65537:", "long"),
+    ("a refused member's keys count as written", "verdict = self.verdict(member, written)\n", "verdict = self.verdict(member, written)\n            written |= {key for key, _ in member.writes}\n", "groups"),
+    ("keys of earlier members do not count", "if key in written or (newest", "if (newest", "groups"),
+    ("taking goes on behind one too large", "break\n            total += size_of(member)", "continue\n            total += size_of(member)", "groups"),
+    ("the first is taken only if it fits", "if taken > 0 and total", "if total", "groups"),
+    ("1,048,577 bytes fit", "> GROUP_BYTES:", "> GROUP_BYTES + 1:", "groups"),
+    ("a newest version at the read sequence conflicts", "newest > member.read", "newest >= member.read", "groups"),
+    ("7 at the last sequence of all", "> LARGEST_SEQUENCE:", ">= LARGEST_SEQUENCE:", "group-limits"),
+    ("65 members are taken", "len(members) > GROUP_MEMBERS or verdict_room", "len(members) > GROUP_MEMBERS + 1 or verdict_room", "group-limits"),
+    ("7 comes before 6", "return 6\n        if self.last + len(member.writes) > LARGEST_SEQUENCE:\n            return 7", "return 7 if self.last + len(member.writes) > LARGEST_SEQUENCE else 6\n        if self.last + len(member.writes) > LARGEST_SEQUENCE:\n            return 7", "group-limits"),
+]
+RUNS = {"mixed": 400, "groups": 1500, "group-limits": 1500}
+
+
+def wrong_model(old, new):
+    with open(SOURCE) as f:
+        text = f.read()
+    if old not in text:
+        sys.exit(f"not in model.py: {old}")
+    module = types.ModuleType("wrong_model")
+    exec(compile(text.replace(old, new), "wrong_model", "exec"), module.__dict__)
+    return module
+
+
+def answer(module, mode, lines):
+    data = b"".join(line + b"\n" for line in lines)
+    try:
+        return module.answer_groups(data) if mode.startswith("group") else module.answer_frames(data, mode == "long")
+    except Exception as e:
+        return repr(e)
+
+
+def main(seed):
+    missed = 0
+    kept = {mode: [] for mode in ("mixed", "limits", "long", "groups", "group-limits")}
+    made = {mode: generate.runs_of(mode, seed, RUNS.get(mode, 1)) for mode in kept}
+
+    def runs(mode):
+        """The runs of a mode, made once, each with the model's answer."""
+        yield from kept[mode]
+        for _, lines in made[mode]:
+            kept[mode].append((lines, answer(model, mode, lines)))
+            yield kept[mode][-1]
+
+    for name, old, new, mode in PLANTED:
+        module, total, found = wrong_model(old, new), 0, False
+        for lines, wanted in runs(mode):
+            total += len(lines)
+            if answer(module, mode, lines) != wanted:
+                found = True
+                break
+        print(f"{name}: {f'told apart within {total} lines of' if found else 'NOT TOLD APART in'} {mode}", flush=True)
+        missed += not found
+    print(f"{len(PLANTED)} planted, {missed} not told apart")
+    return 1 if missed else 0
+
+
+if __name__ == "__main__":
+    sys.exit(main(int(sys.argv[1]) if len(sys.argv) > 1 else 1))
