@@ -1,0 +1,6 @@
+pub mod Among
+pub mod Answering
+pub mod Enqueueing
+pub mod Requested
+pub mod Routing
+pub mod WatchAnswers

@@ -1,0 +1,104 @@
+-- Laws of WATCH: the keys are watched with its reply, or 5, or 3. Assumes nothing.
+use Prim.Native.Nat.{ℕ, _-_}
+use mathlib.Core.Path.{_≡_, sym, ap, _∙_, subst}
+use mathlib.Core.Bool.{Bool, true, false, cond}
+use mathlib.Core.List.{List, map}
+use borrow.Author.Tests.{le-leb}
+use lib.ListN.{length}
+use Rattle.key.specs.Bytes.{Bytes, part, total}
+use Rattle.key.specs.Keys.{Key}
+use Rattle.writing.specs.declared.Put.{Put}
+use Rattle.writing.specs.declared.Put.the-variants.{Wrote, Full}
+use Rattle.writing.specs.Puts.{Puts}
+use Rattle.resp.specs.Reply.{Reply, encode, ok}
+use Rattle.memtable.specs.Versions.{Store}
+use Rattle.server.specs.declared.Answer.{Answer}
+use Rattle.server.specs.declared.errors.Fixed.the-variants.{Ok}
+use Rattle.server.specs.declared.watch.Grown.{Grown}
+use Rattle.server.specs.declared.watch.Grown.the-variants as grown
+use Rattle.server.specs.Names.{rowOf, countRight, arity}
+use Rattle.server.specs.Rows.{rowAt, Looked}
+use Rattle.server.specs.Session.{Session, says, returns, addKeys, watchFits}
+use Rattle.server.specs.Sessions.{keysIn, sessionFrom}
+use Rattle.server.specs.Errors.{fixedReply, arityOf}
+use Rattle.server.specs.Held.{Held}
+use Rattle.server.specs.Places.{argumentsAt}
+use Rattle.server.specs.Watch.{Holding, GrownTo, keysWith, watchingWith, WatchPut}
+use Rattle.server.proofs.Kept.{words-kept, bytes-kept}
+use Rattle.server.proofs.Queueing.{arguments-count}
+use Rattle.server.proofs.Watching.{grown-full, grown-holding}
+use Rattle.server.proofs.WatchCall.{keys-with, all-watched}
+use Rattle.server.proofs.ErrorTexts.{arity-as-sent}
+use Rattle.answer.specs.Answers.{refusal}
+use Rattle.session.specs.Answers.{changing, same, Answered, Unchanged}
+use Rattle.session.specs.Routes.{watchingAt, watchDone}
+use Rattle.session.specs.Watches.{Keeps}
+use Rattle.answer.proofs.Finish.{Cleared}
+use Rattle.session.proofs.Answering.{answered-same, answered-wrote, answered-full, answered-number}
+
+-- the two branches, by whether the keys fit
+fits-watched : (ks : List Key) (last : ℕ) (st : Store) (s : Session) → watchFits (keysWith ks last s) ≡ true → watchingAt ks last st s ≡ says (fixedReply Ok) st (watchingWith ks last s)
+unfolding watchingAt fixedReply
+fits-watched ks last st s e = ap (λ (v : Bool). cond v (says ok st (watchingWith ks last s)) (returns 5 st s)) e
+
+no-room : (ks : List Key) (last : ℕ) (st : Store) (s : Session) → watchFits (keysWith ks last s) ≡ false → watchingAt ks last st s ≡ returns 5 st s
+unfolding watchingAt
+no-room ks last st s e = ap (λ (v : Bool). cond v (says ok st (watchingWith ks last s)) (returns 5 st s)) e
+
+holding-fits : {js : List Key} {lens lens′ : List ℕ} {text text′ : Bytes} {n u : ℕ} → Holding js lens lens′ text text′ n u → watchFits js ≡ true
+unfolding watchFits
+holding-fits {js} g = rw (le-leb (length js) 32 (g .few), le-leb (total (map length js)) 2048 (g .short))
+
+module _ {w : List ℕ} {b : Bytes} (h : Held w b) {lens : List ℕ} {text : Bytes} (a : length lens ≡ 32) (c : length text ≡ 2048) (count last used : ℕ) {out : Bytes} (z : Cleared out)
+    {put : Put} {out′ : Bytes} (p : Puts (encode (fixedReply Ok)) out put out′) where
+  fits-held : (ks : List Key) (u : ℕ) → Holding (addKeys ks (keysIn w b)) (part 5 32 w) lens (part 0 2048 b) text count u → watchFits (keysWith ks last (sessionFrom w b)) ≡ true
+  fits-held ks u g = ap watchFits (keys-with h ks last) ∙ holding-fits g
+
+  pub keeps-wrote : {w′ : List ℕ} {b′ : Bytes} {k : ℕ} → put ≡ Wrote k → WatchPut lens text count last w w′ b b′
+      → Keeps lens text count last w w′ b b′ used out (record { number = 0; used = used; reply = k }) out′
+  keeps-wrote e kept = record {
+    is = λ ks u g.
+        let all = all-watched h ks last g a c kept in
+        answered-wrote h (watchingAt ks last) used z (fixedReply Ok) (watchingWith ks last (sessionFrom w b)) (λ st. fits-watched ks last st (sessionFrom w b) (fits-held ks u g)) p e (all .words) (all .bytes);
+  }
+
+  pub keeps-full : {r : Answer} → put ≡ Full → r ≡ refusal 3 → Keeps lens text count last w w b b used out r out′
+  keeps-full {r} e r-is = record {
+    is = λ ks u g.
+        subst (λ (x : Answer). Answered (watchingAt ks last) w w b b used out x out′) (sym r-is)
+        (answered-full h (watchingAt ks last) used z (fixedReply Ok) (watchingWith ks last (sessionFrom w b)) (λ st. fits-watched ks last st (sessionFrom w b) (fits-held ks u g)) p e);
+  }
+
+-- from what adding the keys gave
+module _ {w : List ℕ} {b : Bytes} (h : Held w b) (ks : List Key) (last : ℕ) {used : ℕ} {out : Bytes} (z : Cleared out) (lens : List ℕ) (text : Bytes) {grows : Grown}
+    (g : GrownTo (addKeys ks (keysIn w b)) (part 5 32 w) lens (part 0 2048 b) text grows) where
+  pub watch-refused : {r : Answer} → grows ≡ grown.Full → r ≡ refusal 5 → Answered (watchingAt ks last) w w b b used out r out
+  watch-refused {r} e r-is =
+      let none-fit : watchFits (keysWith ks last (sessionFrom w b)) ≡ false = ap watchFits (keys-with h ks last) ∙ grown-full (addKeys ks (keysIn w b)) (part 5 32 w) lens (part 0 2048 b) text g e in
+      subst (λ (x : Answer). Answered (watchingAt ks last) w w b b used out x out) (sym r-is)
+      (answered-number h (watchingAt ks last) used z 5 (sessionFrom w b) (λ st. no-room ks last st (sessionFrom w b) none-fit) (sym (words-kept h)) (sym (bytes-kept h)))
+
+  pub watch-kept : {n u : ℕ} {w′ : List ℕ} {b′ : Bytes} {r : Answer} {out′ : Bytes} → grows ≡ grown.To n u → Keeps lens text n last w w′ b b′ used out r out′ → Answered (watchingAt ks last) w w′ b b′ used out r out′
+  watch-kept {n} {u} e k = k .is ks u (grown-holding (addKeys ks (keysIn w b)) (part 5 32 w) lens (part 0 2048 b) text g e)
+
+-- THE ARGUMENT COUNT
+module _ {word : Bytes} {row : ℕ} (l : Looked word row) (count : ℕ) (places : List ℕ) (input : Bytes) {right : Bool} (e : right ≡ countRight (rowAt row) (count - 1)) where
+  abbrev ks : List Key
+  ks = argumentsAt 1 (count - 1) places input
+
+  right-as : {v : Bool} → right ≡ v → countRight (rowOf word) (length ks) ≡ v
+  right-as f = (λ i. countRight (sym (l .is) i) (arguments-count 1 (count - 1) places input i)) ∙ sym e ∙ f
+
+  module _ {w w′ : List ℕ} {b b′ : Bytes} (last : ℕ) {used : ℕ} {out out′ : Bytes} {r : Answer} where
+    pub count-right : right ≡ true → Answered (watchingAt (argumentsAt 1 (count - 1) places input) last) w w′ b b′ used out r out′
+        → Answered (watchDone (rowOf word) (argumentsAt 1 (count - 1) places input) last) w w′ b b′ used out r out′
+    count-right f a = answered-same (watchingAt ks last) (watchDone (rowOf word) ks last) (λ st s. unfold watchDone in ap (λ (v : Bool). cond v (watchingAt ks last st s) (says (arity (rowOf word)) st s)) (right-as f)) a
+
+  pub count-wrong : {w : List ℕ} {b : Bytes} {used : ℕ} {out out′ : Bytes} {r : Answer} (last : ℕ) → Held w b → right ≡ false → Unchanged (changing (arityOf word) same) used out r out′
+      → Answered (watchDone (rowOf word) (argumentsAt 1 (count - 1) places input) last) w w b b used out r out′
+  count-wrong {w} {b} last h f a = answered-same (changing (arityOf word) same) (watchDone (rowOf word) ks last) wrong (a .is w b h)
+    where
+      wrong : (st : Store) (s : Session) → watchDone (rowOf word) ks last st s ≡ changing (arityOf word) same st s
+      wrong st s = unfold watchDone changing in
+          ap (λ (v : Bool). cond v (watchingAt ks last st s) (says (arity (rowOf word)) st s)) (right-as f)
+          ∙ ap (λ (x : Reply). says x st s) (arity-as-sent word (length ks) (right-as f))

@@ -1,0 +1,43 @@
+-- What a request on one session answers and leaves, whatever the store is.
+use Prim.Native.Nat.{ℕ}
+use mathlib.Core.Path.{_≡_}
+use mathlib.Core.List.{List}
+use lib.ListN.{length}
+use Rattle.key.specs.Bytes.{Bytes}
+use Rattle.memtable.specs.Versions.{Store}
+use Rattle.server.specs.declared.Answer.{Answer}
+use Rattle.resp.specs.Reply.{Reply}
+use Rattle.server.specs.Session.{Session, Done, says}
+use Rattle.server.specs.Sessions.{sessionFrom}
+use Rattle.server.specs.Finish.{finish, Says, SessionLeft}
+use Rattle.server.specs.Held.{Held}
+
+-- a reply, and a change of the session
+unfoldable pub changing : Reply → (Session → Session) → Store → Session → Done
+changing r change st s = says r st (change s)
+
+-- no change
+abbrev pub same : Session → Session
+same s = s
+
+-- `w`, `b` are the session's words and bytes and `out` the reply buffer, before and after
+pub record Answered (done : Store → Session → Done) (w w′ : List ℕ) (b b′ : Bytes) (used : ℕ) (out : Bytes) (r : Answer) (out′ : Bytes) : Type 0 where
+  pub says : (st : Store) → Says (finish (length out) used (done st (sessionFrom w b)) st (sessionFrom w b)) out r out′
+  pub left : (st : Store) → SessionLeft (finish (length out) used (done st (sessionFrom w b)) st (sessionFrom w b)) w b w′ b′
+
+-- the same at one store, with what the definitions give there
+pub record AnsweredAt (st : Store) (d : Done) (w w′ : List ℕ) (b b′ : Bytes) (used : ℕ) (out : Bytes) (r : Answer) (out′ : Bytes) : Type 0 where
+  pub says : Says (finish (length out) used d st (sessionFrom w b)) out r out′
+  pub left : SessionLeft (finish (length out) used d st (sessionFrom w b)) w b w′ b′
+
+-- the same at every store with this last sequence
+pub record AnsweredWith (last : ℕ) (done : Store → Session → Done) (w w′ : List ℕ) (b b′ : Bytes) (used : ℕ) (out : Bytes) (r : Answer) (out′ : Bytes) : Type 0 where
+  pub is : (st : Store) → st .last ≡ last → AnsweredAt st (done st (sessionFrom w b)) w w′ b b′ used out r out′
+
+-- for a function that is lent the words alone: whatever the session's bytes are, they stay
+pub record Steered (done : Store → Session → Done) (w w′ : List ℕ) (used : ℕ) (out : Bytes) (r : Answer) (out′ : Bytes) : Type 0 where
+  pub is : (b : Bytes) → Held w b → Answered done w w′ b b used out r out′
+
+-- for a function that is lent no session: whatever its words and bytes are, they stay
+pub record Unchanged (done : Store → Session → Done) (used : ℕ) (out : Bytes) (r : Answer) (out′ : Bytes) : Type 0 where
+  pub is : (w : List ℕ) (b : Bytes) → Held w b → Answered done w w b b used out r out′

@@ -1,0 +1,102 @@
+// The requests that steer a session: one reply, and a change of its head. A reply that does not fit changes nothing.
+use crate::answers;
+use crate::routes::Step;
+use server::Answer;
+use server::changes;
+use server::errors;
+use server::errors::Fixed;
+use writing::Put;
+ghost use mathlib.Core.Path.{_≡_};
+ghost use lib.ListN.{length, getD, replicate};
+ghost use Rattle.server.specs.declared.errors.Fixed.the-variants as fixed;
+ghost use Rattle.server.specs.Session.{marked, notQueueable};
+ghost use Rattle.server.specs.Errors.{fixedReply};
+ghost use Rattle.server.specs.Held.{cleared, opened, unwatched};
+ghost use Rattle.session.specs.Answers.{changing, Steered};
+ghost use Rattle.session.specs.Routes.{stepDone, Steerable};
+
+// MULTI outside MULTI: an empty queue, and no mark.
+fn open(words: &mut [u64], out: &mut [u8], used: usize) -> Answer
+    requires { ⌜ (length (now words) ≡ 613) × (getD (now words) 0 0 ≡ 0) ⌝ }
+    requires { ⌜ now out ≡ replicate (length (now out)) 0 ⌝ }
+    ensures { λ r. ⌜ Steered (changing (fixedReply fixed.Ok) opened) (now (words .entry)) (now (words .exit)) used (now (out .entry)) r (now (out .exit)) ⌝ }
+{
+    let put = errors::put_fixed(out, Fixed::Ok);
+    let Put::Wrote(n) = put else {
+        return answer::refusal(3);
+    };
+    changes::open_multi(words);
+    Answer {
+        number: 0,
+        used: used,
+        reply: n,
+    }
+}
+
+// UNWATCH outside MULTI.
+fn unwatch(words: &mut [u64], out: &mut [u8], used: usize) -> Answer
+    requires { ⌜ length (now words) ≡ 613 ⌝ }
+    requires { ⌜ now out ≡ replicate (length (now out)) 0 ⌝ }
+    ensures { λ r. ⌜ Steered (changing (fixedReply fixed.Ok) unwatched) (now (words .entry)) (now (words .exit)) used (now (out .entry)) r (now (out .exit)) ⌝ }
+{
+    let put = errors::put_fixed(out, Fixed::Ok);
+    let Put::Wrote(n) = put else {
+        return answer::refusal(3);
+    };
+    changes::unwatch(words);
+    Answer {
+        number: 0,
+        used: used,
+        reply: n,
+    }
+}
+
+// QUIT, and DISCARD inside MULTI: queue, watch and mark are dropped.
+fn clear(words: &mut [u64], out: &mut [u8], used: usize) -> Answer
+    requires { ⌜ length (now words) ≡ 613 ⌝ }
+    requires { ⌜ now out ≡ replicate (length (now out)) 0 ⌝ }
+    ensures { λ r. ⌜ Steered (changing (fixedReply fixed.Ok) cleared) (now (words .entry)) (now (words .exit)) used (now (out .entry)) r (now (out .exit)) ⌝ }
+{
+    let put = errors::put_fixed(out, Fixed::Ok);
+    let Put::Wrote(n) = put else {
+        return answer::refusal(3);
+    };
+    changes::clear(words);
+    Answer {
+        number: 0,
+        used: used,
+        reply: n,
+    }
+}
+
+// Inside MULTI, a name that may not be queued: the error marks the session failed.
+pub fn not_queueable(words: &mut [u64], word: &[u8], out: &mut [u8], used: usize) -> Answer
+    requires { ⌜ length (now words) ≡ 613 ⌝ }
+    requires { ⌜ now out ≡ replicate (length (now out)) 0 ⌝ }
+    ensures { λ r. ⌜ Steered (changing (notQueueable (now (word .entry))) marked) (now (words .entry)) (now (words .exit)) used (now (out .entry)) r (now (out .exit)) ⌝ }
+{
+    let put = errors::put_not_queueable(out, word);
+    let Put::Wrote(len) = put else {
+        return answer::refusal(3);
+    };
+    changes::mark_failed(words);
+    Answer {
+        number: 0,
+        used: used,
+        reply: len,
+    }
+}
+
+// A request that steers the session.
+pub fn steer(step: Step, words: &mut [u64], out: &mut [u8], used: usize) -> Answer
+    requires { ⌜ Steerable step (now words) ⌝ }
+    requires { ⌜ now out ≡ replicate (length (now out)) 0 ⌝ }
+    ensures { λ r. ⌜ Steered (stepDone step) (now (words .entry)) (now (words .exit)) used (now (out .entry)) r (now (out .exit)) ⌝ }
+{
+    match step {
+        Step::Open => open(words, out, used),
+        Step::Unwatch => unwatch(words, out, used),
+        Step::Clear => clear(words, out, used),
+        Step::Reply(which) => answers::reply_only(out, which, used),
+    }
+}

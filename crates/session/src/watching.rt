@@ -1,0 +1,101 @@
+// WATCH outside MULTI.
+use crate::answers;
+use server::Answer;
+use server::errors;
+use server::errors::Fixed;
+use server::names;
+use server::watch;
+use server::watch::Grown;
+use writing::Put;
+ghost use mathlib.Core.Path.{_≡_};
+ghost use Prim.Native.Nat.{_-_, _≤_};
+ghost use lib.ListN.{length, replicate};
+ghost use Rattle.server.specs.Names.{rowOf};
+ghost use Rattle.server.specs.Rows.{Looked};
+ghost use Rattle.server.specs.Held.{Held};
+ghost use Rattle.server.specs.Places.{argumentsAt, PartsIn};
+ghost use Rattle.session.specs.Answers.{Answered};
+ghost use Rattle.session.specs.Routes.{watchingAt, watchDone};
+ghost use Rattle.session.specs.Watches.{Keeps};
+
+// Replies to a WATCH whose `count` keys are in working memory, and puts them in their places.
+fn keep_watch(
+    words: &mut [u64],
+    bytes: &mut [u8],
+    lens: &[u64],
+    text: &[u8],
+    count: usize,
+    last: u64,
+    out: &mut [u8],
+    used: usize,
+) -> Answer
+    requires { ⌜ Held (now words) (now bytes) ⌝ }
+    requires { ⌜ (length (now lens) ≡ 32) × (length (now text) ≡ 2048) ⌝ }
+    requires { ⌜ now out ≡ replicate (length (now out)) 0 ⌝ }
+    ensures { λ r. ⌜ Keeps (now (lens .entry)) (now (text .entry)) count last (now (words .entry)) (now (words .exit)) (now (bytes .entry)) (now (bytes .exit)) used (now (out .entry)) r (now (out .exit)) ⌝ }
+{
+    let put = errors::put_fixed(out, Fixed::Ok);
+    let Put::Wrote(n) = put else {
+        return answer::refusal(3);
+    };
+    watch::keep(words, bytes, lens, text, count, last);
+    Answer {
+        number: 0,
+        used: used,
+        reply: n,
+    }
+}
+
+// Watches the keys of the places behind the first, all of them: 5 without room for them, which comes before 3.
+fn watch_arguments(
+    words: &mut [u64],
+    bytes: &mut [u8],
+    input: &[u8],
+    places: &[u64],
+    count: usize,
+    last: u64,
+    out: &mut [u8],
+    used: usize,
+) -> Answer
+    requires { ⌜ Held (now words) (now bytes) ⌝ }
+    requires { ⌜ PartsIn (now places) (now input) count ⌝ }
+    requires { ⌜ 1 ≤ count ⌝ }
+    requires { ⌜ now out ≡ replicate (length (now out)) 0 ⌝ }
+    ensures { λ r. ⌜ Answered (watchingAt (argumentsAt 1 (count - 1) (now (places .entry)) (now (input .entry))) last) (now (words .entry)) (now (words .exit)) (now (bytes .entry)) (now (bytes .exit)) used (now (out .entry)) r (now (out .exit)) ⌝ }
+{
+    let mut lens = [0u64; 32];
+    let mut text = [0u8; 2048];
+    let grown = watch::grow(words, bytes, &mut lens, &mut text, input, places, count);
+    match grown {
+        Grown::Full => return answer::refusal(5),
+        Grown::To(n, _) => {
+            return keep_watch(words, bytes, &lens, &text, n, last, out, used);
+        }
+    }
+}
+
+// WATCH with the name `word`, whose row is `row`: the store's last sequence is the snapshot of the first.
+pub fn watch_keys(
+    words: &mut [u64],
+    bytes: &mut [u8],
+    input: &[u8],
+    places: &[u64],
+    count: usize,
+    word: &[u8],
+    row: usize,
+    last: u64,
+    out: &mut [u8],
+    used: usize,
+) -> Answer
+    requires { ⌜ Held (now words) (now bytes) ⌝ }
+    requires { ⌜ PartsIn (now places) (now input) count ⌝ }
+    requires { ⌜ 1 ≤ count ⌝ }
+    requires { ⌜ Looked (now word) row ⌝ }
+    requires { ⌜ now out ≡ replicate (length (now out)) 0 ⌝ }
+    ensures { λ r. ⌜ Answered (watchDone (rowOf (now (word .entry))) (argumentsAt 1 (count - 1) (now (places .entry)) (now (input .entry))) last) (now (words .entry)) (now (words .exit)) (now (bytes .entry)) (now (bytes .exit)) used (now (out .entry)) r (now (out .exit)) ⌝ }
+{
+    if names::count_right(row, count - 1) {
+        return watch_arguments(words, bytes, input, places, count, last, out, used);
+    }
+    answers::reply_arity(out, word, used)
+}
