@@ -1,10 +1,9 @@
 -- A reply that was put into a cleared buffer, and what `finish` makes of it. Assumes nothing.
 use Prim.Native.Nat.{ℕ, zero, suc, _-_}
 use native.Mathlib.Omega.{arith}
-use mathlib.Core.Path.{_≡_, refl, sym, ap, _∙_}
-use mathlib.Core.Bool.{true, false}
-use mathlib.Core.List.{List, [], _++_}
-use lib.ListN.{length, drop, replicate, length-replicate}
+use mathlib.Core.Path.{_≡_, refl, ap, _∙_}
+use mathlib.Core.List.{_++_}
+use lib.ListN.{length, drop, replicate}
 use borrow.Author.Tests.{le-leb, lt-leb}
 use Rattle.key.specs.Bytes.{Bytes}
 use Rattle.writing.specs.declared.Put.{Put}
@@ -13,7 +12,6 @@ use Rattle.writing.specs.Puts.{Puts}
 use Rattle.writing.proofs.Puts.{was-wrote, was-full}
 use Rattle.resp.specs.Reply.{Reply, encode}
 use Rattle.memtable.specs.Versions.{Store}
-use Rattle.server.specs.declared.Answer.{Answer}
 use Rattle.server.specs.Session.{Session, says}
 use Rattle.server.specs.Finish.{Served, silent, fitted, finishBy, finish, replyBuffer, Says}
 use Rattle.answer.specs.Answers.{refusal}

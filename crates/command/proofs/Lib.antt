@@ -1,3 +1,4 @@
+-- The laws of this crate.
 pub mod AmountLaws
 pub mod ArgumentLaws
 pub mod MeaningLaws

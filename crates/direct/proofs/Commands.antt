@@ -31,16 +31,15 @@ use Rattle.reading.specs.declared.Raised.the-variants.{To, NotInteger, Overflow
 use Rattle.reading.specs.Raise.{raisedEffect}
 use Rattle.server.specs.declared.errors.Fixed.the-variants.{Ok}
 use Rattle.server.specs.declared.errors.Fixed.the-variants as fixed
-use Rattle.server.specs.Names.{Args}
 use Rattle.direct.specs.Reading.{lastReader, LiveIs}
-use Rattle.server.specs.Command.{Effect, tombstone, put, pairsOf, live, held, raised}
+use Rattle.server.specs.Command.{Effect, put, pairsOf, live, held, raised}
 use Rattle.server.specs.Errors.{fixedReply}
 use Rattle.server.specs.Places.{argumentsAt, lengthsAt, PartsIn}
 use Rattle.server.proofs.Parts.{length-part}
 use Rattle.server.proofs.Queueing.{arguments-count}
 use Rattle.direct.specs.Writes.{argumentIn, tombstonesAt, pairsAt, RoomForAll, HeaderIn, verdictLeft, verdictAnswer}
 use Rattle.answer.specs.Answers.{putAnswer}
-use Rattle.direct.specs.Served.{verdictBuffer, Runs, Admitted, deletion, counted, integerText, AdmittedText, RunsText}
+use Rattle.direct.specs.Served.{bufferAfter, Runs, Admitted, deletion, counted, integerText, AdmittedText, RunsText}
 use Rattle.direct.proofs.Writes.{pair-room, pair-words, pair-bytes}
 use Rattle.answer.proofs.Finish.{Cleared}
 use Rattle.direct.proofs.Lengths.{decimal-few}
@@ -100,7 +99,7 @@ module _ {p : Reply} {ws : List Write} {used : ℕ} {out : Bytes} {w b : List �
 -- ADMITTING writes of `n` versions, by the steps that the code takes
 pub admits : (e : Effect) (w b : List ℕ) (used n : ℕ) {out mid out′ : Bytes} {put : Put} {left : Left} {v : Verdict} {r : Answer}
     → Puts (encode (e .0)) out put mid → n ≡ length (e .1) → left ≡ bytesLeft (mostBytesWord w - usedWord w) (writesSize (e .1)) → v ≡ verdictLeft w n left
-    → r ≡ verdictAnswer v put used → out′ ≡ verdictBuffer v mid → Valid w b → Cleared out → Admitted e used out w b r out′
+    → r ≡ verdictAnswer v put used → out′ ≡ bufferAfter v mid → Valid w b → Cleared out → Admitted e used out w b r out′
 admits e w b used n {put = put} {v = v} puts n-is left-is v-is r-is o-is valid c =
     let w-is = v-is ∙ verdict-is w b valid (e .1) n-is left-is in
     record {
@@ -113,7 +112,7 @@ admits e w b used n {put = put} {v = v} puts n-is left-is v-is r-is o-is valid c
 pub admits-pairs : (p : List ℕ) (s : Bytes) (pairs used : ℕ) (w b : List ℕ) {out mid out′ : Bytes} {put : Put} {free : ℕ} {left : Left} {v : Verdict} {r : Answer}
     → Puts (encode (fixedReply Ok)) out put mid → free ≡ mostBytesWord w - usedWord w
     → left ≡ bytesLeft free (total (lengthsAt 1 (1 + 2 * pairs - 1) p)) → v ≡ verdictLeft w pairs left
-    → r ≡ verdictAnswer v put used → out′ ≡ verdictBuffer v mid → Valid w b → PartsIn p s (1 + 2 * pairs) → out ≡ replicate (length out) 0
+    → r ≡ verdictAnswer v put used → out′ ≡ bufferAfter v mid → Valid w b → PartsIn p s (1 + 2 * pairs) → out ≡ replicate (length out) 0
     → Admitted (ok, pairsAt 1 pairs p s) used out w b r out′
 unfolding fixedReply
 admits-pairs p s pairs used w b puts free-is left-is v-is r-is o-is valid q c =
@@ -130,7 +129,7 @@ pub admits-tombstones : (p : List ℕ) (s : Bytes) (count used : ℕ) (w b : Lis
     → LiveIs w b (argumentsAt 1 (count - 1) p s) n
     → Puts (encode (Integer (pos n))) out put mid → free ≡ mostBytesWord w - usedWord w
     → left ≡ bytesLeft free (total (lengthsAt 1 (count - 1) p)) → v ≡ verdictLeft w (count - 1) left
-    → r ≡ verdictAnswer v put used → out′ ≡ verdictBuffer v mid → Valid w b → 1 ≤ count → PartsIn p s count → out ≡ replicate (length out) 0
+    → r ≡ verdictAnswer v put used → out′ ≡ bufferAfter v mid → Valid w b → 1 ≤ count → PartsIn p s count → out ≡ replicate (length out) 0
     → Admitted (deletion count p s w b) used out w b r out′
 unfolding deletion
 admits-tombstones p s count used w b {out} {mid} {out′} {put} l puts free-is left-is v-is r-is o-is valid h q c =
@@ -165,7 +164,7 @@ one-size k text = sym (add-zero (length k + length text))
 module _ (k text : Bytes) (used : ℕ) (w b : List ℕ) {out : Bytes} where
   pub admits-text : {mid out′ : Bytes} {put : Put} {free : ℕ} {left : Left} {v : Verdict} {r : Answer}
       → Puts (integerText text) out put mid → free ≡ mostBytesWord w - usedWord w → left ≡ bytesLeft free (length k + length text)
-      → v ≡ verdictLeft w 1 left → r ≡ verdictAnswer v put used → out′ ≡ verdictBuffer v mid → Valid w b → out ≡ replicate (length out) 0
+      → v ≡ verdictLeft w 1 left → r ≡ verdictAnswer v put used → out′ ≡ bufferAfter v mid → Valid w b → out ≡ replicate (length out) 0
       → AdmittedText k text used out w b r out′
   unfolding counted integerText encode
   admits-text {mid} {out′} {put} {free} {left} {v} {r} puts free-is left-is v-is r-is o-is valid c =

@@ -1,12 +1,12 @@
 -- Writes committed one after the other, with room for all of them: what a loop of `commit_one` keeps. Assumes nothing.
-use Prim.Native.Nat.{ℕ, suc, _+_, _^_, _≤_, _<_}
+use Prim.Native.Nat.{ℕ, suc}
 use native.Mathlib.Omega.{arith}
 use mathlib.Core.Path.{_≡_, refl, sym, ap, _∙_, subst}
 use mathlib.Core.List.{List, [], _∷_}
 use lib.ListN.{length}
 use Rattle.memtable.specs.Table.{Write}
-use Rattle.memtable.specs.Versions.{Version, Store, bytesOf, sizeOf, writesSize, commitOne, commit}
-use Rattle.memtable.specs.Layout.{countWord, usedWord, lastWord, mostVersionsWord, mostBytesWord, storeIn, leaveWords, leaveBytes}
+use Rattle.memtable.specs.Versions.{Version, Store, bytesOf, writesSize, commitOne, commit}
+use Rattle.memtable.specs.Layout.{storeIn, leaveWords, leaveBytes}
 use Rattle.memtable.specs.Rows.{Valid, RoomForOne}
 use Rattle.direct.specs.Writes.{RoomForAll}
 use Rattle.memtable.proofs.VersionLaws.{length-insert, size-insert}

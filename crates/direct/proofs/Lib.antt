@@ -1,3 +1,4 @@
+-- The laws of this crate.
 pub mod Commands
 pub mod Commits
 pub mod Lengths

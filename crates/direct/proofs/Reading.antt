@@ -1,11 +1,9 @@
 -- Reading through no own writes is reading the store at its last sequence. Assumes nothing.
-use Prim.Native.Nat.{ℕ, _-_, _≤_}
+use Prim.Native.Nat.{ℕ, _-_}
 use native.Mathlib.Omega.{arith}
-use mathlib.Core.Path.{_≡_, refl, sym, ap, _∙_}
-use mathlib.Core.List.{List, [], _∷_, map}
-use mathlib.Core.Option.{Option, none, some}
+use mathlib.Core.Path.{_≡_, sym, ap, _∙_}
+use mathlib.Core.List.{List, map}
 use lib.IntN.{ℤ, pos}
-use lib.ListN.{length}
 use Rattle.key.specs.Bytes.{Bytes}
 use Rattle.key.specs.Keys.{Key}
 use Rattle.number.specs.declared.Number.{Number}
@@ -13,11 +11,10 @@ use Rattle.writing.specs.declared.Put.{Put}
 use Rattle.writing.specs.declared.Put.the-variants.{Wrote}
 use Rattle.writing.specs.Puts.{Puts, Adds}
 use Rattle.writing.proofs.Puts.{then-puts, puts-nothing, same-text}
-use Rattle.resp.specs.Reply.{Reply, Integer, array, bulkOr, encode}
-use Rattle.memtable.specs.Table.{Value, Reader}
+use Rattle.resp.specs.Reply.{Integer, array, bulkOr, encode}
+use Rattle.memtable.specs.Table.{Reader}
 use Rattle.memtable.specs.Layout.{lastWord}
-use Rattle.own.specs.Own.{Own, readerOf}
-use Rattle.own.proofs.Growing.{own-none}
+use Rattle.own.specs.Own.{readerOf}
 use Rattle.own.proofs.Readers.{reader-none}
 use Rattle.reading.proofs.Arguments.{live-few}
 use Rattle.server.specs.Command.{live, held}
@@ -26,7 +23,6 @@ use Rattle.direct.specs.Reading.{lastReader, LiveIs, valuesReply}
 pub last-reader : (own : List ℕ) (d : Bytes) (w : List ℕ) (b : Bytes) → readerOf own d 0 w b (lastWord w) ≡ lastReader w b
 unfolding lastReader
 last-reader own d w b = reader-none own d w b (lastWord w)
-
 
 module _ (own : List ℕ) (d : Bytes) (w : List ℕ) (b : Bytes) where
   pub live-is : (ks : List Key) {n : ℕ} → n ≡ live (readerOf own d 0 w b (lastWord w)) ks → LiveIs w b ks n

@@ -1,7 +1,7 @@
 -- What the verdict, the reply and the commit of a command make together: what `effectServed` says. Assumes nothing.
 use Prim.Native.Nat.{ℕ, _+_, _-_, _^_, _≤_, _<_}
 use native.Mathlib.Omega.{arith}
-use mathlib.Core.Path.{_≡_, refl, sym, ap, _∙_, subst}
+use mathlib.Core.Path.{_≡_, refl, sym, ap, _∙_}
 use mathlib.Core.Bool.{Bool, true, false, cond, _&&_}
 use mathlib.Core.List.{List, []}
 use lib.Dec.{leb, ltb}
@@ -16,23 +16,23 @@ use Rattle.resp.specs.Reply.{Reply, encode}
 use Rattle.memtable.specs.declared.open.Left.{Left}
 use Rattle.memtable.specs.declared.open.Left.the-variants.{Rest, Short}
 use Rattle.memtable.specs.Table.{Write}
-use Rattle.memtable.specs.Versions.{Store, writesSize, versionsSize, commit}
+use Rattle.memtable.specs.Versions.{writesSize, commit}
 use Rattle.memtable.specs.Layout.{countWord, usedWord, lastWord, mostVersionsWord, mostBytesWord, storeIn, leaveWords, leaveBytes}
 use Rattle.memtable.specs.Rows.{Valid, roomIn, bytesLeft}
 use Rattle.memtable.proofs.Opening.{room-is}
 use Rattle.memtable.proofs.Sequence.{leave-words-same, leave-bytes-same}
 use Rattle.batch.specs.declared.Verdict.{Verdict}
 use Rattle.batch.specs.declared.Verdict.the-variants.{Accepted, Conflict, NoRoom, NoSequence, NotTaken}
-use Rattle.batch.specs.Group.{plain, heldKeys, conflicts, hasRoom, hasSequences, judge, verdictAlone}
+use Rattle.batch.specs.Group.{plain, conflicts, hasRoom, hasSequences, judge, verdictAlone}
 use Rattle.batch.proofs.SizeLaws.{left-rest, rest-within, short-above}
 use Rattle.server.specs.declared.Answer.{Answer}
 use Rattle.server.specs.Command.{Effect}
-use Rattle.server.specs.Session.{Session, says, returns, committed}
-use Rattle.server.specs.Finish.{Served, silent, finish, finishBy, Says, StoreLeft}
+use Rattle.server.specs.Session.{Session, says, committed}
+use Rattle.server.specs.Finish.{silent, finish, finishBy, Says, StoreLeft}
 use Rattle.direct.specs.Writes.{RoomForAll, verdictLeft, verdictAnswer}
 use Rattle.answer.specs.Answers.{refusal, putAnswer}
-use Rattle.direct.specs.Served.{verdictBuffer, effectServed, Runs}
-use Rattle.answer.proofs.Finish.{Cleared, replied, finish-wrote, says-wrote, finish-full, full-cleared, says-number}
+use Rattle.direct.specs.Served.{bufferAfter, effectServed, Runs}
+use Rattle.answer.proofs.Finish.{Cleared, finish-wrote, says-wrote, finish-full, full-cleared, says-number}
 
 -- THE VERDICT of writes without a read sequence
 module _ (w b : List ℕ) (v : Valid w b) (ws : List Write) where
@@ -93,7 +93,6 @@ accepted-room w ws {n} {l} n-is l-is u e = go l l-is e (leb (countWord w + n) (m
 -- THE CALL: a reply put into a cleared buffer, a verdict, and the answer that they make
 module _ (e : Effect) (w b : List ℕ) (used : ℕ) {out mid : Bytes} {put : Put} {v : Verdict}
     (p : Puts (encode (e .0)) out put mid) (v-is : v ≡ verdictAlone (storeIn w b) (plain (e .1))) where
-
   served : (s : Session) → effectServed (length out) used e (storeIn w b) s ≡ finish (length out) used (committed v e (storeIn w b) s) (storeIn w b) s
   unfolding effectServed
   served s = ap (λ (x : Verdict). finish (length out) used (committed x e (storeIn w b) s) (storeIn w b) s) (sym v-is)
@@ -113,19 +112,19 @@ module _ (e : Effect) (w b : List ℕ) (used : ℕ) {out mid : Bytes} {put : Put
       → Runs e used out w b r out′ w′ b′
   runs-by f = record { says = λ s. f s .0; left = λ s. f s .1 }
 
-  buffer-cleared : {out′ : Bytes} (x : Verdict) → out′ ≡ verdictBuffer x mid → verdictBuffer x mid ≡ replicate (length mid) 0 → out′ ≡ replicate (length out) 0
+  buffer-cleared : {out′ : Bytes} (x : Verdict) → out′ ≡ bufferAfter x mid → bufferAfter x mid ≡ replicate (length mid) 0 → out′ ≡ replicate (length out) 0
   buffer-cleared x o-is c = o-is ∙ c ∙ ap (λ (n : ℕ). replicate n 0) (length-kept p)
 
   -- number 0: the writes are accepted, the reply fits, and the writes are committed
-  pub runs-written : {r : Answer} {out′ w′ b′ : List ℕ} → Cleared out → r ≡ verdictAnswer v put used → r .number ≡ 0 → out′ ≡ verdictBuffer v mid
+  pub runs-written : {r : Answer} {out′ w′ b′ : List ℕ} → Cleared out → r ≡ verdictAnswer v put used → r .number ≡ 0 → out′ ≡ bufferAfter v mid
       → w′ ≡ leaveWords (commit (e .1) (storeIn w b)) w → b′ ≡ leaveBytes (commit (e .1) (storeIn w b)) b → Runs e used out w b r out′ w′ b′
-  unfolding verdictAnswer putAnswer verdictBuffer
+  unfolding verdictAnswer putAnswer bufferAfter
   runs-written {r} {out′} {w′} {b′} cleared r-is zero o-is w-is b-is = runs-by (λ s. go v refl put refl s r-is (ap (λ (x : Answer). x .number) (sym r-is) ∙ zero) o-is)
     where
       Both : Session → Type 0
       Both s = Says (effectServed (length out) used e (storeIn w b) s) out r out′ × StoreLeft (effectServed (length out) used e (storeIn w b) s) w b w′ b′
 
-      go : (x : Verdict) → v ≡ x → (q : Put) → put ≡ q → (s : Session) → r ≡ verdictAnswer x q used → verdictAnswer x q used .number ≡ 0 → out′ ≡ verdictBuffer x mid → Both s
+      go : (x : Verdict) → v ≡ x → (q : Put) → put ≡ q → (s : Session) → r ≡ verdictAnswer x q used → verdictAnswer x q used .number ≡ 0 → out′ ≡ bufferAfter x mid → Both s
       go Accepted x-is (Wrote k) q-is s a z o =
           rw (served s, x-is) (unfold committed in
           rw (finish-wrote (e .0) p used (storeIn w b) (commit (e .1) (storeIn w b)) s s q-is, a, o)
@@ -137,15 +136,15 @@ module _ (e : Effect) (w b : List ℕ) (used : ℕ) {out mid : Bytes} {put : Put
       go NotTaken x-is q q-is s a z o = absurd (omega arith)
 
   -- any other number leaves all
-  pub runs-refused : {r : Answer} {out′ : List ℕ} → Valid w b → r ≡ verdictAnswer v put used → (r .number ≡ 0 → ⊥) → out′ ≡ verdictBuffer v mid
+  pub runs-refused : {r : Answer} {out′ : List ℕ} → Valid w b → r ≡ verdictAnswer v put used → (r .number ≡ 0 → ⊥) → out′ ≡ bufferAfter v mid
       → Runs e used out w b r out′ w b
-  unfolding verdictAnswer putAnswer verdictBuffer
+  unfolding verdictAnswer putAnswer bufferAfter
   runs-refused {r} {out′} val r-is some o-is = runs-by (λ s. go v refl put refl s r-is o-is)
     where
       Both : Session → Type 0
       Both s = Says (effectServed (length out) used e (storeIn w b) s) out r out′ × StoreLeft (effectServed (length out) used e (storeIn w b) s) w b w b
 
-      go : (x : Verdict) → v ≡ x → (q : Put) → put ≡ q → (s : Session) → r ≡ verdictAnswer x q used → out′ ≡ verdictBuffer x mid → Both s
+      go : (x : Verdict) → v ≡ x → (q : Put) → put ≡ q → (s : Session) → r ≡ verdictAnswer x q used → out′ ≡ bufferAfter x mid → Both s
       go Accepted x-is (Wrote k) q-is s a o = absurd (some (ap (λ (y : Answer). y .number) a))
       go Accepted x-is Full q-is s a o =
           refused 3 s val (rw x-is (unfold committed in finish-full (e .0) p used (storeIn w b) (commit (e .1) (storeIn w b)) s s q-is)) a
@@ -173,8 +172,8 @@ module _ (put : Put) (used : ℕ) (mid : Bytes) {v : Verdict} where
   unfolding verdictAnswer
   arm-accepted e r-is = r-is ∙ rw e
 
-  pub kept-accepted : v ≡ Accepted → mid ≡ verdictBuffer v mid
-  unfolding verdictBuffer
+  pub kept-accepted : v ≡ Accepted → mid ≡ bufferAfter v mid
+  unfolding bufferAfter
   kept-accepted e = rw e
 
   pub arm-conflict : {r : Answer} → v ≡ Conflict → r ≡ refusal 1 → r ≡ verdictAnswer v put used
@@ -193,20 +192,20 @@ module _ (put : Put) (used : ℕ) (mid : Bytes) {v : Verdict} where
   unfolding verdictAnswer
   arm-not-taken e r-is = r-is ∙ rw e
 
-  pub cleared-conflict : {out : Bytes} → v ≡ Conflict → out ≡ replicate (length mid) 0 → out ≡ verdictBuffer v mid
-  unfolding verdictBuffer
+  pub cleared-conflict : {out : Bytes} → v ≡ Conflict → out ≡ replicate (length mid) 0 → out ≡ bufferAfter v mid
+  unfolding bufferAfter
   cleared-conflict e o = o ∙ rw e
 
-  pub cleared-no-room : {out : Bytes} → v ≡ NoRoom → out ≡ replicate (length mid) 0 → out ≡ verdictBuffer v mid
-  unfolding verdictBuffer
+  pub cleared-no-room : {out : Bytes} → v ≡ NoRoom → out ≡ replicate (length mid) 0 → out ≡ bufferAfter v mid
+  unfolding bufferAfter
   cleared-no-room e o = o ∙ rw e
 
-  pub cleared-no-sequence : {out : Bytes} → v ≡ NoSequence → out ≡ replicate (length mid) 0 → out ≡ verdictBuffer v mid
-  unfolding verdictBuffer
+  pub cleared-no-sequence : {out : Bytes} → v ≡ NoSequence → out ≡ replicate (length mid) 0 → out ≡ bufferAfter v mid
+  unfolding bufferAfter
   cleared-no-sequence e o = o ∙ rw e
 
-  pub cleared-not-taken : {out : Bytes} → v ≡ NotTaken → out ≡ replicate (length mid) 0 → out ≡ verdictBuffer v mid
-  unfolding verdictBuffer
+  pub cleared-not-taken : {out : Bytes} → v ≡ NotTaken → out ≡ replicate (length mid) 0 → out ≡ bufferAfter v mid
+  unfolding bufferAfter
   cleared-not-taken e o = o ∙ rw e
 
 -- A COMMAND THAT WRITES NOTHING is accepted, and leaves the store
@@ -219,7 +218,7 @@ nothing-accepted w b v h =
 
 pub runs-quiet : (p : Reply) (w b : List ℕ) (used : ℕ) {out out′ : Bytes} {put : Put} {r : Answer} → Valid w b → lastWord w < 2 ^ 64 → Cleared out
     → Puts (encode p) out put out′ → r ≡ putAnswer put used → Runs (p, []) used out w b r out′ w b
-unfolding verdictAnswer verdictBuffer putAnswer commit
+unfolding verdictAnswer bufferAfter putAnswer commit
 runs-quiet p w b used {out} {out′} {put} {r} val h cleared puts r-is = go put refl r-is
   where
     number-wrote : {k : ℕ} → r ≡ putAnswer (Wrote k) used → r .number ≡ 0

@@ -1,29 +1,27 @@
 -- The writes of a command outside MULTI: laws of its arguments, of its commit, and of the verdict. Assumes nothing.
-use Prim.Native.Nat.{ℕ, zero, suc, _+_, _-_, _*_, _^_, _≤_, _<_}
+use Prim.Native.Nat.{ℕ, suc, _+_, _-_, _*_, _^_, _≤_, _<_}
 use native.Mathlib.Numerals.{add-one}
 use native.Mathlib.Omega.{arith}
 use mathlib.Core.Path.{_≡_, refl, sym, ap, _∙_, subst}
-use mathlib.Core.Bool.{Bool, true, false, cond, _&&_}
+use mathlib.Core.Bool.{Bool, true, false}
 use mathlib.Core.List.{List, [], _∷_, map}
-use mathlib.Core.Option.{Option, none, some}
-use lib.Dec.{leb, ltb}
+use mathlib.Core.Option.{some}
+use lib.Dec.{ltb}
 use lib.ListN.{length, getD}
-use borrow.Author.Tests.{le-leb, lt-leb, leb-true, leb-false}
+use borrow.Author.Tests.{le-leb, lt-leb}
 use Rattle.key.specs.Bytes.{Bytes, total}
 use Rattle.memtable.specs.declared.open.Left.{Left}
 use Rattle.memtable.specs.declared.open.Left.the-variants.{Rest, Short}
 use Rattle.memtable.specs.Table.{Write}
-use Rattle.memtable.specs.Versions.{Store, bytesOf, writesSize, commitOne, commit}
-use Rattle.memtable.specs.Layout.{countWord, usedWord, lastWord, mostVersionsWord, mostBytesWord, storeIn, leaveWords, leaveBytes}
+use Rattle.memtable.specs.Versions.{bytesOf, writesSize, commitOne, commit}
+use Rattle.memtable.specs.Layout.{countWord, lastWord, mostVersionsWord, storeIn, leaveWords, leaveBytes}
 use Rattle.memtable.specs.Rows.{Valid, RoomForOne, valueIf, bytesLeft}
-use Rattle.batch.specs.declared.Verdict.{Verdict}
 use Rattle.batch.specs.declared.Verdict.the-variants.{Accepted, NoRoom, NoSequence}
-use Rattle.batch.specs.Settling.{keyPart}
-use Rattle.batch.proofs.SizeLaws.{left-rest, left-then, short-then, rest-within, short-above}
+use Rattle.batch.proofs.SizeLaws.{left-rest, left-then, short-then}
 use Rattle.server.specs.Command.{tombstone, put, pairsOf}
 use Rattle.server.specs.Places.{argumentsAt, lengthsAt, PartsIn}
 use Rattle.server.proofs.Queueing.{lengths-next, lengths-end}
-use Rattle.direct.specs.Writes.{argumentIn, ArgumentIn, tombstonesAt, pairsAt, RoomForAll, HeaderIn, verdictLeft}
+use Rattle.direct.specs.Writes.{argumentIn, ArgumentIn, tombstonesAt, pairsAt, RoomForAll, verdictLeft}
 use Rattle.direct.proofs.Commits.{Commits, commits-none, commits-valid, commits-words, commits-bytes, commits-more}
 
 -- ONE WRITE, whose key and value are the parts that were taken

@@ -1,4 +1,4 @@
-pub mod Direct
+-- The definitions of this crate.
 pub mod Reading
 pub mod Served
 pub mod Writes

@@ -23,12 +23,12 @@ use Rattle.direct.specs.Writes.{tombstonesAt, RoomForAll}
 use Rattle.server.specs.Finish.{Served, finish, Says, StoreLeft}
 
 -- the reply buffer after a verdict: a refusal clears it
-unfoldable pub verdictBuffer : Verdict → Bytes → Bytes
-verdictBuffer Accepted out = out
-verdictBuffer Conflict out = replicate (length out) 0
-verdictBuffer NoRoom out = replicate (length out) 0
-verdictBuffer NoSequence out = replicate (length out) 0
-verdictBuffer NotTaken out = replicate (length out) 0
+unfoldable pub bufferAfter : Verdict → Bytes → Bytes
+bufferAfter Accepted out = out
+bufferAfter Conflict out = replicate (length out) 0
+bufferAfter NoRoom out = replicate (length out) 0
+bufferAfter NoSequence out = replicate (length out) 0
+bufferAfter NotTaken out = replicate (length out) 0
 
 -- a command by its effect: its writes commit by themselves
 unfoldable pub effectServed : ℕ → ℕ → Effect → Store → Session → Served

@@ -49,15 +49,7 @@ pub fn held_number(words: &[u64], bytes: &[u8], name: &[u8]) -> Number
     requires { ⌜ Valid (now words) (now bytes) ⌝ }
     ensures { λ r. ⌜ r ≡ held (lastReader (now (words .entry)) (now (bytes .entry)) (now (name .entry))) ⌝ }
 {
-    counter::held_number(
-        &words[..0],
-        0,
-        &bytes[..0],
-        words,
-        bytes,
-        words[2],
-        name,
-    )
+    counter::held_number(&words[..0], 0, &bytes[..0], words, bytes, words[2], name)
 }
 
 // Writes the value of `name`, or nil.

@@ -15,7 +15,7 @@ ghost use Rattle.memtable.specs.Layout.{usedWord, mostBytesWord};
 ghost use Rattle.memtable.specs.Rows.{bytesLeft};
 ghost use Rattle.server.specs.Places.{lengthsAt};
 ghost use Rattle.direct.specs.Writes.{HeaderIn, verdictLeft, verdictAnswer};
-ghost use Rattle.direct.specs.Served.{verdictBuffer};
+ghost use Rattle.direct.specs.Served.{bufferAfter};
 
 // What the arguments from place `from` to `to` leave of `left` bytes.
 pub fn lengths_left(places: &[u64], from: usize, to: usize, left: usize) -> Left
@@ -74,7 +74,7 @@ pub fn verdict_for(words: &[u64], writes: usize, left: Left) -> Verdict
 // The answer after a verdict, with the reply that was put: 6 and 7 come before 3, and clear the buffer.
 pub fn verdict_answer(out: &mut [u8], verdict: Verdict, put: Put, used: usize) -> Answer
     ensures { λ r. ⌜ r ≡ verdictAnswer verdict put used ⌝ }
-    ensures { λ _. ⌜ now (out .exit) ≡ verdictBuffer verdict (now (out .entry)) ⌝ }
+    ensures { λ _. ⌜ now (out .exit) ≡ bufferAfter verdict (now (out .entry)) ⌝ }
 {
     match verdict {
         Verdict::Accepted => answer::put_answer(put, used),

@@ -1,7 +1,7 @@
 // The commands that write: the reply is put, the verdict is found, and an accepted command whose reply fits commits.
-use crate::reads;
 use crate::commit;
 use crate::read;
+use crate::replies;
 use crate::room;
 use memtable::commit as store;
 use memtable::open;
@@ -190,7 +190,7 @@ fn run_number(
 }
 
 // INCR, DECR and INCRBY by `by`: the number read and the checked sum, or the error. `text` is working memory.
-fn run_counter(
+pub fn run_counter(
     name: &[u8],
     by: i64,
     text: &mut [u8],
@@ -209,7 +209,7 @@ fn run_counter(
     let raised = counter::raised_by(held, by);
     match raised {
         Raised::To(number) => run_number(name, number, text, used, words, bytes, out),
-        Raised::NotInteger => reads::answer_fixed(Fixed::NotInteger, used, words, bytes, out),
-        Raised::Overflow => reads::answer_fixed(Fixed::Overflow, used, words, bytes, out),
+        Raised::NotInteger => replies::answer_fixed(Fixed::NotInteger, used, words, bytes, out),
+        Raised::Overflow => replies::answer_fixed(Fixed::Overflow, used, words, bytes, out),
     }
 }

@@ -1,3 +1,4 @@
+-- The laws of this crate.
 pub mod Matching
 pub mod Ranging
 pub mod Rests

@@ -1,3 +1,4 @@
+-- The laws of this crate.
 pub mod ArgumentLaws
 pub mod Growing
 pub mod LastWrites

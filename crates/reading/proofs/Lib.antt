@@ -1,3 +1,4 @@
+-- The laws of this crate.
 pub mod Arguments
 pub mod Counters
 pub mod Seeing

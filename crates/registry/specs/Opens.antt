@@ -1,4 +1,4 @@
--- Every definition of this crate, opened at once: for facts that antt computes. Written by tools/opens.py.
+-- Every definition of this crate, opened at once: for facts that antt computes.
 use Rattle.key.specs.Opens.{key-opens}
 use Rattle.number.specs.Opens.{number-opens}
 use Rattle.resp.specs.Opens.{resp-opens}

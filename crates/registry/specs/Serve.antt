@@ -1,6 +1,6 @@
 -- A request on one session (document 01, sections 3 and 7, and the returned numbers), and the state of all sessions.
 use Prim.Native.Nat.{ℕ}
-use mathlib.Core.Bool.{true, false, cond}
+use mathlib.Core.Bool.{true, false}
 use mathlib.Core.List.{List, [], _∷_, _++_, map}
 use lib.Dec.{ltb}
 use lib.ListN.{length, getD, set, replicate}

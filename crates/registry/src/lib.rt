@@ -1,4 +1,4 @@
-// The published calls: opening a store, a request, a group.
+// The published calls: opening a store, and a group of members.
 
 pub mod group;
 pub mod open;

@@ -1,3 +1,4 @@
+-- The laws of this crate.
 pub mod Among
 pub mod Answering
 pub mod Enqueueing

@@ -1,3 +1,4 @@
+-- The definitions of this crate.
 pub mod Answers
 pub mod Routes
 pub mod Watches

@@ -1,3 +1,4 @@
+-- `answer::put_answer` meets its contract. Assumes nothing.
 use Rattle.answer.proofs.Answers.{put-full, put-wrote}
 use borrow.Author.Needs.{needs}
 use Rattle.answer.proofs.put_answer.Statement.{statement}

@@ -1,13 +1,9 @@
+-- src/commit.rt:59:47
 use Rattle.direct.proofs.Writes.{pair-room, pair-words, pair-bytes}
 use borrow.Author.Needs.{needs}
 use Rattle.direct.proofs.commit.commit_pair.Statement.{statement}
 use Rattle.direct.proofs.commit.commit_pair.Tie as tie
-use Rattle.direct.proofs.commit.commit_pair.Reads as reads
-use Rattle.direct.proofs.commit.commit_pair.Lts as lts
-use Rattle.batch.proofs.parts.key_part.Reads as key-part-reads
-use Rattle.memtable.proofs.commit.commit_one.Reads as commit-one-reads
 
--- src/commit.rt:59:47
 mul-key-part : tie.Need-mul-key-part
 mul-key-part c = search needs
 

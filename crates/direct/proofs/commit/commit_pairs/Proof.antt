@@ -1,11 +1,9 @@
+-- src/commit.rt:80:5
 use Prim.Native.Nat.{_-_}
 use Rattle.direct.proofs.Writes.{Setting, setting-none, setting-valid, setting-key, setting-value, setting-room, setting-more, set-words, set-bytes}
 use borrow.Author.Needs.{needs}
 use Rattle.direct.proofs.commit.commit_pairs.Statement.{statement}
 use Rattle.direct.proofs.commit.commit_pairs.Tie as tie
-use Rattle.direct.proofs.commit.commit_pairs.Reads as reads
-use Rattle.direct.proofs.commit.commit_pairs.Lts as lts
-use Rattle.direct.proofs.commit.commit_pair.Reads as commit-pair-reads
 
 abbrev Inv-loop : tie.InvT-loop
 Inv-loop input places from pairs words₀ bytes₀ j₀ words bytes j = Setting places input from pairs words₀ bytes₀ words bytes j
@@ -13,7 +11,6 @@ Inv-loop input places from pairs words₀ bytes₀ j₀ words bytes j = Setting 
 abbrev μ-loop : tie.MeasureT-loop
 μ-loop input places from pairs words₀ bytes₀ j₀ words bytes j = pairs - j
 
--- src/commit.rt:80:5
 loop-holds : tie.Need-loop-holds Inv-loop μ-loop
 loop-holds c = search setting-none
 
@@ -33,11 +30,9 @@ commit-pair-requires c κs = (search setting-key, (search setting-value, (search
 add-j : tie.Need-add-j Inv-loop μ-loop
 add-j c = search needs
 
--- src/commit.rt:80:5
 loop-less : tie.Need-loop-less Inv-loop μ-loop
 loop-less c = search needs
 
--- src/commit.rt:80:5
 loop-again : tie.Need-loop-again Inv-loop μ-loop
 loop-again c = search setting-more
 

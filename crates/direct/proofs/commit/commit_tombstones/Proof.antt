@@ -1,11 +1,9 @@
+-- src/commit.rt:44:5
 use Prim.Native.Nat.{_-_}
 use Rattle.direct.proofs.Writes.{Deleting, deleting-none, deleting-valid, deleting-argument, deleting-room, deleting-more, deleted-words, deleted-bytes}
 use borrow.Author.Needs.{needs}
 use Rattle.direct.proofs.commit.commit_tombstones.Statement.{statement}
 use Rattle.direct.proofs.commit.commit_tombstones.Tie as tie
-use Rattle.direct.proofs.commit.commit_tombstones.Reads as reads
-use Rattle.direct.proofs.commit.commit_tombstones.Lts as lts
-use Rattle.direct.proofs.commit.commit_tombstone.Reads as commit-tombstone-reads
 
 abbrev Inv-loop : tie.InvT-loop
 Inv-loop input places from to words₀ bytes₀ i₀ words bytes i = Deleting places input from to words₀ bytes₀ words bytes i
@@ -13,7 +11,6 @@ Inv-loop input places from to words₀ bytes₀ i₀ words bytes i = Deleting pl
 abbrev μ-loop : tie.MeasureT-loop
 μ-loop input places from to words₀ bytes₀ i₀ words bytes i = to - i
 
--- src/commit.rt:44:5
 loop-holds : tie.Need-loop-holds Inv-loop μ-loop
 loop-holds c = search deleting-none
 
@@ -25,11 +22,9 @@ commit-tombstone-requires c κs = search (deleting-argument, deleting-valid, del
 add-i : tie.Need-add-i Inv-loop μ-loop
 add-i c = search needs
 
--- src/commit.rt:44:5
 loop-less : tie.Need-loop-less Inv-loop μ-loop
 loop-less c = search needs
 
--- src/commit.rt:44:5
 loop-again : tie.Need-loop-again Inv-loop μ-loop
 loop-again c = search deleting-more
 

@@ -1,3 +1,4 @@
+-- `direct::read::count_live` meets its contract. Assumes nothing.
 use Rattle.direct.proofs.Reading.{live-is}
 use Rattle.own.proofs.Growing.{own-none}
 use borrow.Author.Needs.{needs}

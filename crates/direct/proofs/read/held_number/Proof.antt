@@ -1,3 +1,4 @@
+-- `direct::read::held_number` meets its contract. Assumes nothing.
 use Rattle.direct.proofs.Reading.{held-is}
 use Rattle.own.proofs.Growing.{own-none}
 use borrow.Author.Needs.{needs}

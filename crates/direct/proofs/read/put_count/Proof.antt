@@ -1,5 +1,5 @@
+-- `direct::read::put_count` meets its contract. Assumes nothing.
 use Rattle.direct.proofs.Reading.{count-put}
-use native.Mathlib.Omega.{arith}
 use mir.Syntax.{w64}
 use mir.ValLaws.{toZ-pos}
 use borrow.Author.Needs.{needs}

@@ -1,3 +1,4 @@
+-- `direct::read::put_value` meets its contract. Assumes nothing.
 use Rattle.direct.proofs.Reading.{value-put}
 use Rattle.own.proofs.Growing.{own-none}
 use borrow.Author.Needs.{needs}

@@ -1,3 +1,4 @@
+-- `direct::read::put_values` meets its contract. Assumes nothing.
 use Rattle.direct.proofs.Reading.{values-put}
 use Rattle.own.proofs.Growing.{own-none}
 use borrow.Author.Needs.{needs}

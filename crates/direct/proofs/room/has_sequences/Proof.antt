@@ -1,12 +1,9 @@
+-- src/room.rt:50:8
 use Rattle.batch.proofs.Committed.{sequences-out, sequences-left}
 use borrow.Author.Needs.{needs}
 use Rattle.direct.proofs.room.has_sequences.Statement.{statement}
 use Rattle.direct.proofs.room.has_sequences.Tie as tie
-use Rattle.direct.proofs.room.has_sequences.Reads as reads
-use Rattle.direct.proofs.room.has_sequences.Lts as lts
-use Rattle.memtable.proofs.commit.wide.Reads as wide-reads
 
--- src/room.rt:50:8
 sub-if1 : tie.Need-sub-if1
 sub-if1 c = search needs
 

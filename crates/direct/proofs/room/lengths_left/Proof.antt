@@ -1,11 +1,9 @@
+-- src/room.rt:26:5
 use Prim.Native.Nat.{_-_}
 use Rattle.direct.proofs.Writes.{Lasting, lasting-none, lasting-more, lasting-short, lasting-all}
 use borrow.Author.Needs.{needs}
 use Rattle.direct.proofs.room.lengths_left.Statement.{statement}
 use Rattle.direct.proofs.room.lengths_left.Tie as tie
-use Rattle.direct.proofs.room.lengths_left.Reads as reads
-use Rattle.direct.proofs.room.lengths_left.Lts as lts
-use Rattle.memtable.proofs.read.word.Reads as word-reads
 
 abbrev Inv-loop : tie.InvT-loop
 Inv-loop places from to left rest₀ i₀ rest i = Lasting places from to left rest i
@@ -13,7 +11,6 @@ Inv-loop places from to left rest₀ i₀ rest i = Lasting places from to left r
 abbrev μ-loop : tie.MeasureT-loop
 μ-loop places from to left rest₀ i₀ rest i = to - i
 
--- src/room.rt:26:5
 loop-holds : tie.Need-loop-holds Inv-loop μ-loop
 loop-holds c = search lasting-none
 
@@ -37,11 +34,9 @@ returns c = search lasting-short
 add-i : tie.Need-add-i Inv-loop μ-loop
 add-i c = search needs
 
--- src/room.rt:26:5
 loop-less : tie.Need-loop-less Inv-loop μ-loop
 loop-less c = search needs
 
--- src/room.rt:26:5
 loop-again : tie.Need-loop-again Inv-loop μ-loop
 loop-again c = search lasting-more
 

@@ -1,3 +1,4 @@
+-- `direct::room::verdict_answer` meets its contract. Assumes nothing.
 use Rattle.direct.proofs.Served.{arm-accepted, kept-accepted, arm-conflict, arm-no-room, arm-no-sequence, arm-not-taken, cleared-conflict, cleared-no-room, cleared-no-sequence, cleared-not-taken}
 use borrow.Author.Needs.{needs}
 use Rattle.direct.proofs.room.verdict_answer.Statement.{statement}

@@ -1,20 +1,15 @@
+-- src/room.rt:62:9
 use Rattle.direct.proofs.Writes.{verdict-short, verdict-full, verdict-accepted, verdict-no-sequence}
 use borrow.Author.Needs.{needs}
 use Rattle.direct.proofs.room.verdict_for.Statement.{statement}
 use Rattle.direct.proofs.room.verdict_for.Tie as tie
-use Rattle.direct.proofs.room.verdict_for.Reads as reads
-use Rattle.direct.proofs.room.verdict_for.Lts as lts
-use Rattle.direct.proofs.room.has_sequences.Reads as has-sequences-reads
-use Rattle.memtable.proofs.read.word.Reads as word-reads
 
 enum-told : tie.Need-enum-told
 enum-told c = search needs
 
--- src/room.rt:62:9
 enum-told-2 : tie.Need-enum-told-2
 enum-told-2 c = search needs
 
--- src/room.rt:62:9
 returns : tie.Need-returns
 returns c = search verdict-short
 

@@ -1,3 +1,4 @@
+-- `direct::run::admit_pairs` meets its contract. Assumes nothing.
 use Rattle.direct.proofs.Commands.{admits-pairs}
 use borrow.Author.Needs.{needs}
 use Rattle.direct.proofs.run.admit_pairs.Statement.{statement}

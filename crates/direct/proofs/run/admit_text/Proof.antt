@@ -1,3 +1,4 @@
+-- `direct::run::admit_text` meets its contract. Assumes nothing.
 use Rattle.direct.proofs.Commands.{admits-text}
 use borrow.Author.Needs.{needs}
 use Rattle.direct.proofs.run.admit_text.Statement.{statement}

@@ -1,3 +1,4 @@
+-- `direct::run::admit_tombstones` meets its contract. Assumes nothing.
 use Rattle.direct.proofs.Commands.{live-fits, admits-tombstones}
 use borrow.Author.Needs.{needs}
 use Rattle.direct.proofs.run.admit_tombstones.Statement.{statement}

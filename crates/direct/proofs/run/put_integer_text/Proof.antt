@@ -1,3 +1,4 @@
+-- `direct::run::put_integer_text` meets its contract. Assumes nothing.
 use Rattle.direct.proofs.Commands.{integer-text}
 use borrow.Author.Needs.{needs}
 use Rattle.direct.proofs.run.put_integer_text.Statement.{statement}

@@ -1,3 +1,4 @@
+-- `direct::run::run_counter` meets its contract. Assumes nothing.
 use mir.Facts.{toZ-ofZ}
 use Rattle.direct.proofs.Commands.{raised-runs, raised-no-integer, raised-overflow}
 use borrow.Author.Needs.{needs}

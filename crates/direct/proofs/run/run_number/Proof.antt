@@ -1,3 +1,4 @@
+-- `direct::run::run_number` meets its contract. Assumes nothing.
 use lib.Seq.{length-take-le}
 use mathlib.Core.Path.{sym}
 use mir.Facts.{toZ-ofZ}

@@ -1,3 +1,4 @@
+-- `direct::run::run_pairs` meets its contract. Assumes nothing.
 use Rattle.direct.proofs.Commands.{admitted-room, admitted-written, admitted-refused}
 use borrow.Author.Needs.{needs}
 use Rattle.direct.proofs.run.run_pairs.Statement.{statement}

@@ -1,3 +1,4 @@
+-- `direct::run::run_text` meets its contract. Assumes nothing.
 use Rattle.direct.proofs.Commands.{text-room, text-written, text-refused}
 use borrow.Author.Needs.{needs}
 use Rattle.direct.proofs.run.run_text.Statement.{statement}

@@ -1,3 +1,4 @@
+-- `direct::run::run_tombstones` meets its contract. Assumes nothing.
 use Rattle.direct.proofs.Commands.{deletion-room, deletion-written, deletion-refused}
 use borrow.Author.Needs.{needs}
 use Rattle.direct.proofs.run.run_tombstones.Statement.{statement}

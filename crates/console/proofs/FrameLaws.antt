@@ -1,0 +1,76 @@
+-- A whole frame: its requests, its rest and its pieces are the answer of the definition. Assumes nothing.
+use Prim.Native.Nat.{ℕ, suc, _+_, _-_, _≤_, _<_}
+use native.Mathlib.Decide.{decLe}
+use native.Mathlib.Omega.{arith}
+use mathlib.Core.Path.{_≡_, refl, sym, ap, _∙_}
+use mathlib.Core.Bool.{Bool, true, false, cond}
+use mathlib.Core.List.{List, [], _∷_, _++_, append-assoc}
+use mathlib.Core.Option.{Option, none, some}
+use lib.ListN.{length, getD, set, length-append}
+use lib.Seq.{set-out}
+use borrow.Author.Tests.{le-leb, lt-leb}
+use Rattle.key.specs.Bytes.{Bytes, bytes}
+use Rattle.number.specs.Decimal.{digits, digitsWithin}
+use Rattle.registry.specs.Serve.{State}
+use Rattle.registry.specs.Calls.{Lent}
+use Rattle.registry.specs.Frames.{Frame, requests, held-rest, hex, orDash, shown, Given, Console, Shown, answerGiven, stops}
+use Rattle.console.specs.declared.answer.Mark.{Mark}
+use Rattle.console.specs.declared.answer.Mark.the-variants.{NoMark, Number, Dropped}
+use Rattle.console.specs.Pieces.{headText, numberText, malformedText, markText, markOrDash, endText, some?}
+use Rattle.console.specs.Rest.{restOf}
+use Rattle.console.specs.Served.{stateIn, FrameServed, markAfter, Answered}
+use Rattle.console.proofs.AnswerLaws.{dash-is}
+use Rattle.console.proofs.ServedLaws.{no-session}
+
+-- the line of a frame, from its pieces
+line-is : (i : ℕ) (replies rest : Bytes) (m : Mark) (st : State) → shown i (record { replies = replies; mark = markText m; rest = rest; state = st }) ++ 10 ∷ [] ≡ headText i ++ (hex replies ++ endText (some? replies) m)
+unfolding shown headText endText
+line-is i replies rest m st =
+    ap (λ (l : Bytes). headText i ++ l) (ap (λ (l : Bytes). l ++ 10 ∷ []) (sym (dash-is replies m)) ∙ append-assoc (hex replies) (markOrDash (some? replies) m) (10 ∷ []))
+
+-- the rest that is kept, with its mark
+rest-marked : (replies rest : Bytes) (m : Mark) (st : State) → held-rest (record { replies = replies; mark = markText m; rest = rest; state = st }) ≡ record { replies = replies; mark = markText (markAfter m rest); rest = restOf rest; state = st }
+unfolding held-rest markAfter restOf markText
+rest-marked replies rest m st = go (decLe (length rest) 4096)
+  where
+    go : Dec (length rest ≤ 4096) → held-rest (record { replies = replies; mark = markText m; rest = rest; state = st }) ≡ record { replies = replies; mark = markText (markAfter m rest); rest = restOf rest; state = st }
+    go (yes h) = rw (le-leb (length rest) 4096 h)
+    go (no h) = let k : 4096 < length rest = omega arith in rw (lt-leb (length rest) 4096 k)
+
+-- a frame of a session below 16
+pub frame-answered : (g : Given) (c : Console) {s : Bytes} {l l′ : Lent} {replied : Bool} {mark : Mark} {rest : Bytes} → c .state ≡ stateIn l → s ≡ getD (c .rests) (g .session) [] ++ g .input
+    → FrameServed (g .session) s l replied mark rest l′ → Answered g c replied (markAfter mark rest) (record { state = stateIn l′; rests = set (c .rests) (g .session) (restOf rest) })
+unfolding answerGiven
+frame-answered g c {s} {l} {l′} {replied} {mark} {rest} state bytes f =
+    record { replies = f .replies; told = f .told; out = ap (λ (x : Frame). shown i x ++ 10 ∷ []) whole ∙ line-is i (f .replies) (restOf rest) (markAfter mark rest) (stateIn l′) ∙ rw (f .told) refl; console = ap (λ (x : Frame). record { state = x .state; rests = set (c .rests) i (x .rest) }) whole }
+  where
+    i : ℕ
+    i = g .session
+
+    whole : held-rest (requests (length (getD (c .rests) (g .session) [] ++ g .input)) (g .session) (getD (c .rests) (g .session) [] ++ g .input) (c .state)) ≡ record { replies = f .replies; mark = markText (markAfter mark rest); rest = restOf rest; state = stateIn l′ }
+    whole = (λ z. held-rest (requests (length (sym bytes z)) (g .session) (sym bytes z) (state z))) ∙ ap held-rest (f .is) ∙ rest-marked (f .replies) rest mark (stateIn l′)
+
+-- no rest is no rest above 4,096 bytes
+nothing-held : (mark : Bytes) (st : State) → held-rest (stops mark [] st) ≡ stops mark [] st
+unfolding held-rest
+nothing-held mark st = refl
+
+-- a frame of a session above 15
+pub frame-refused : (g : Given) (c : Console) → 16 ≤ g .session → 1 ≤ length (g .input) → length (c .rests) ≡ 16 → Answered g c false (Number 1) c
+unfolding answerGiven markText numberText digits digitsWithin
+frame-refused g c above some-bytes many =
+    record { replies = []; told = refl; out = ap (λ (x : Frame). shown (g .session) x ++ 10 ∷ []) whole ∙ line-is (g .session) [] [] (Number 1) (c .state); console = ap (λ (x : Frame). record { state = x .state; rests = set (c .rests) (g .session) (x .rest) }) whole ∙ ap (λ (r : List Bytes). record { state = c .state; rests = r }) (set-out (c .rests) (g .session) [] (omega arith)) }
+  where
+    size : length (getD (c .rests) (g .session) [] ++ g .input) ≡ suc (length (getD (c .rests) (g .session) [] ++ g .input) - 1)
+    size = omega (arith, length-append (getD (c .rests) (g .session) []) (g .input))
+
+    whole : held-rest (requests (length (getD (c .rests) (g .session) [] ++ g .input)) (g .session) (getD (c .rests) (g .session) [] ++ g .input) (c .state)) ≡ record { replies = []; mark = markText (Number 1); rest = []; state = c .state }
+    whole =
+        ap (λ (k : ℕ). held-rest (requests k (g .session) (getD (c .rests) (g .session) [] ++ g .input) (c .state))) size
+        ∙ ap held-rest (no-session (length (getD (c .rests) (g .session) [] ++ g .input) - 1) (g .session) (getD (c .rests) (g .session) [] ++ g .input) (c .state) above)
+        ∙ nothing-held (markText (Number 1)) (c .state)
+
+-- a line of another form
+pub malformed-line : (c : Console) → malformedText ≡ answerGiven none c .out ++ 10 ∷ []
+unfolding answerGiven malformedText
+malformed-line c = refl

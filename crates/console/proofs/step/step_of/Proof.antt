@@ -1,0 +1,23 @@
+-- `console::step::step_of` meets its contract. Assumes nothing.
+use Rattle.console.proofs.StepLaws.{step-number, step-none, step-some}
+use borrow.Author.Needs.{needs}
+use Rattle.console.proofs.step.step_of.Statement.{statement}
+use Rattle.console.proofs.step.step_of.Tie as tie
+
+returns : tie.Need-returns
+returns c = search step-number
+
+returns-2 : tie.Need-returns-2
+returns-2 c = search step-none
+
+done-with-requires : tie.Need-done-with-requires
+done-with-requires c κs = search needs
+
+same-length : tie.Need-same-length
+same-length c = search needs
+
+returns-3 : tie.Need-returns-3
+returns-3 c = search step-some
+
+pub step-of-spec : {M : Type 1} → statement M
+step-of-spec = tie.close (tie.spec returns returns-2 done-with-requires same-length returns-3)

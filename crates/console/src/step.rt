@@ -1,0 +1,59 @@
+// One request of a frame: what its call answered, as the loop over the frame's requests goes on.
+use crate::answer::Mark;
+use crate::quit;
+use server::Answer;
+ghost use mathlib.Core.Path.{_≡_};
+ghost use lib.ListN.{length};
+ghost use Rattle.console.specs.Steps.{doneWith, stepOf, repliedAfter};
+
+// A returned number; no whole request; or a request with the bytes that are done with and those of its reply.
+pub enum Step {
+    Refused(u64),
+    Waits,
+    Used(usize, usize),
+}
+
+// How a frame ends: whether a reply byte was written, its mark, and the place of its rest.
+pub struct Ended {
+    pub replied: bool,
+    pub mark: Mark,
+    pub from: usize,
+}
+
+// How many of the bytes are done with: all of them where the request drops the rest.
+fn done_with(input: &[u8], places: &mut [u64], used: usize) -> usize
+    requires { ⌜ length (now places) ≡ 2048 ⌝ }
+    ensures { λ r. ⌜ r ≡ doneWith (now (input .entry)) used ⌝ }
+{
+    if input.len() <= used {
+        return input.len();
+    }
+    if quit::closes(input, places) {
+        return input.len();
+    }
+    used
+}
+
+// The step that an answer to the request at the front of `input` makes; `places` is working memory.
+pub fn step_of(input: &[u8], places: &mut [u64], answer: Answer) -> Step
+    requires { ⌜ length (now places) ≡ 2048 ⌝ }
+    ensures { λ r. ⌜ r ≡ stepOf (now (input .entry)) answer ⌝ }
+{
+    if 0 < answer.number {
+        return Step::Refused(answer.number);
+    }
+    if answer.used == 0 {
+        return Step::Waits;
+    }
+    Step::Used(done_with(input, places, answer.used), answer.reply)
+}
+
+// Whether a reply byte was written, after `count` more.
+pub fn replied_after(replied: bool, count: usize) -> bool
+    ensures { λ r. ⌜ r ≡ repliedAfter replied count ⌝ }
+{
+    if 0 < count {
+        return true;
+    }
+    replied
+}
