@@ -1,3 +1,4 @@
 -- The definitions of this crate.
+pub mod Kinds
 pub mod Meant
 pub mod Reading

@@ -1,6 +1,7 @@
 // What a request means: its name, its argument count, then its arguments (`execute` of src/server.rs, without the store).
 pub mod amounts;
 pub mod arguments;
+pub mod kinds;
 pub mod options;
 
 use arguments::argument;
@@ -51,6 +52,26 @@ pub enum Listing {
 pub enum Executed {
     Runs(Command),
     Lists(Listing),
+}
+
+// A command that only answers: which reply.
+pub enum Read {
+    Value,
+    Live,
+    Values,
+    Echo,
+    Says(Fixed),
+    Arity,
+    Unknown,
+    Nothing,
+}
+
+// What a command does, in the terms in which the code runs it.
+pub enum Kind {
+    Pairs,
+    Tombstones,
+    Counter(i64),
+    Reads(Read),
 }
 
 // SET without options.

@@ -14,9 +14,9 @@ use Rattle.writing.specs.declared.Put.{Put}
 use Rattle.writing.specs.declared.Put.the-variants.{Wrote, Full}
 use Rattle.writing.specs.Puts.{Puts, Adds}
 use Rattle.writing.proofs.Puts.{Written, nothing, stored, full, done, same-length, then-puts, same-text, puts-nothing}
-use Rattle.registry.specs.Frames.{hexDigit, hex, orDash, shown, Frame}
-use Rattle.console.specs.declared.answer.Mark.{Mark}
-use Rattle.console.specs.declared.answer.Mark.the-variants.{NoMark, Number, Dropped}
+use Rattle.calls.specs.Frames.{hexDigit, hex, orDash, shown, Frame}
+use Rattle.console.specs.declared.pieces.Mark.{Mark}
+use Rattle.console.specs.declared.pieces.Mark.the-variants.{NoMark, Number, Dropped}
 use Rattle.console.specs.Pieces.{headText, numberText, markText, markOrDash, endText, malformedText, some?, pieces}
 
 -- A DIGIT

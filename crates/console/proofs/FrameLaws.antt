@@ -11,11 +11,11 @@ use lib.Seq.{set-out}
 use borrow.Author.Tests.{le-leb, lt-leb}
 use Rattle.key.specs.Bytes.{Bytes, bytes}
 use Rattle.number.specs.Decimal.{digits, digitsWithin}
-use Rattle.registry.specs.Serve.{State}
-use Rattle.registry.specs.Calls.{Lent}
-use Rattle.registry.specs.Frames.{Frame, requests, held-rest, hex, orDash, shown, Given, Console, Shown, answerGiven, stops}
-use Rattle.console.specs.declared.answer.Mark.{Mark}
-use Rattle.console.specs.declared.answer.Mark.the-variants.{NoMark, Number, Dropped}
+use Rattle.calls.specs.Serve.{State}
+use Rattle.calls.specs.Calls.{Lent}
+use Rattle.calls.specs.Frames.{Frame, requests, held-rest, hex, orDash, shown, Given, Console, Shown, answerGiven, stops}
+use Rattle.console.specs.declared.pieces.Mark.{Mark}
+use Rattle.console.specs.declared.pieces.Mark.the-variants.{NoMark, Number, Dropped}
 use Rattle.console.specs.Pieces.{headText, numberText, malformedText, markText, markOrDash, endText, some?}
 use Rattle.console.specs.Rest.{restOf}
 use Rattle.console.specs.Served.{stateIn, FrameServed, markAfter, Answered}

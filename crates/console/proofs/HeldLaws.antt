@@ -12,7 +12,7 @@ use lib.Seq.{drop-at, drop-append-le, take-append-le, ext-getD, take-all, take-a
 use borrow.Author.Tests.{leb-true}
 use borrow.Rule.Slice.PartMut.{midOf, putMid, same-len-mid, mid-len, take-put, drop-put}
 use Rattle.key.specs.Bytes.{Bytes, part}
-use Rattle.registry.specs.Frames as F
+use Rattle.calls.specs.Frames as F
 use Rattle.console.specs.declared.line.Given.{Given}
 use Rattle.console.specs.declared.line.Given.the-variants.{Frame, Malformed}
 use Rattle.console.specs.declared.line.Head.{Head}

@@ -12,7 +12,7 @@ use lib.Seq.{drop-cons, take-at}
 use borrow.Author.Tests.{le-leb, lt-leb}
 use Rattle.key.specs.Bytes.{Bytes}
 use Rattle.writing.proofs.Puts.{Written, nothing, stored, same-length}
-use Rattle.registry.specs.Frames.{hexValue, joinHex, unhex}
+use Rattle.calls.specs.Frames.{hexValue, joinHex, unhex}
 use Rattle.console.specs.declared.line.Pair.{Pair}
 use Rattle.console.specs.declared.line.Pair.the-variants.{Byte, NoByte}
 use Rattle.console.specs.declared.line.Decoded.{Decoded}

@@ -12,7 +12,7 @@ use borrow.Rule.Slice.PartMut.{midOf, putMid, same-len-mid}
 use borrow.Author.Tests.{le-leb, lt-leb, eq-eqb, ne-eqb}
 use Rattle.key.specs.Bytes.{Bytes}
 use Rattle.writing.proofs.Lent.{rest, with-rest}
-use Rattle.registry.specs.Frames as F
+use Rattle.calls.specs.Frames as F
 use Rattle.console.specs.declared.line.Given.{Given}
 use Rattle.console.specs.declared.line.Given.the-variants.{Frame, Malformed}
 use Rattle.console.specs.declared.line.Decoded.{Decoded}

@@ -16,7 +16,7 @@ use Rattle.resp.specs.Steps.{spanWords, argumentWords, ReadIs}
 use Rattle.server.specs.declared.names.Control.{Control as Said}
 use Rattle.server.specs.Names.{rowOf, Row, Control, MULTI, EXEC, DISCARD, WATCH, UNWATCH, QUIT, other, controlOf}
 use Rattle.server.specs.Rows.{rowAt, Looked, controlSaid}
-use Rattle.registry.specs.Frames.{closes}
+use Rattle.calls.specs.Frames.{closes}
 use Rattle.console.specs.Quit.{isQuit, quitsSaid, quits}
 
 pub quits-is : (word : Bytes) {row : ℕ} (r : Said) {b : Bool} → Looked word row → controlSaid r ≡ controlOf (rowAt row .name) → b ≡ quitsSaid r → b ≡ quits word

@@ -15,13 +15,13 @@ use Rattle.resp.specs.Opens.{resp-opens}
 use Rattle.resp.specs.Request.{readRequest, waits}
 use Rattle.server.specs.declared.Answer.{Answer}
 use Rattle.server.specs.Session.{Session, clear}
-use Rattle.registry.specs.Serve.{State, Outcome, Stepped, requestOn, serve, serveReading, refused}
-use Rattle.registry.specs.Calls.{Lent, Called, valid, storeOf, sessionOf, request-call, answerOf, RequestPromise}
-use Rattle.registry.specs.Frames.{Frame, stops, requests, closes}
-use Rattle.registry.proofs.StateLaws.{Represents, SameStep, request-same}
-use Rattle.registry.proofs.LentLaws.{request-refused, request-served, request-leaves}
-use Rattle.console.specs.declared.answer.Mark.{Mark}
-use Rattle.console.specs.declared.answer.Mark.the-variants.{NoMark, Number, Dropped}
+use Rattle.calls.specs.Serve.{State, Outcome, Stepped, requestOn, serve, serveReading, refused}
+use Rattle.calls.specs.Calls.{Lent, Called, valid, storeOf, sessionOf, request-call, answerOf, RequestPromise}
+use Rattle.calls.specs.Frames.{Frame, stops, requests, closes}
+use Rattle.calls.proofs.StateLaws.{Represents, SameStep, request-same}
+use Rattle.calls.proofs.LentLaws.{request-refused, request-served, request-leaves}
+use Rattle.console.specs.declared.pieces.Mark.{Mark}
+use Rattle.console.specs.declared.pieces.Mark.the-variants.{NoMark, Number, Dropped}
 use Rattle.console.specs.Pieces.{numberText, markText, some?}
 use Rattle.console.specs.Served.{listed, stateIn, behind, Serving, FrameServed}
 

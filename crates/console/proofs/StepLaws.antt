@@ -12,10 +12,10 @@ use borrow.Author.Tests.{le-leb, lt-leb, lt-ltb, le-ltb, ltb-true, ltb-false, le
 use Rattle.key.specs.Bytes.{Bytes}
 use Rattle.resp.specs.Request.{readRequest}
 use Rattle.server.specs.declared.Answer.{Answer}
-use Rattle.registry.specs.Calls.{Lent, valid, RequestPromise}
-use Rattle.registry.specs.Frames.{closes}
-use Rattle.console.specs.declared.answer.Mark.{Mark}
-use Rattle.console.specs.declared.answer.Mark.the-variants.{NoMark, Number}
+use Rattle.calls.specs.Calls.{Lent, valid, RequestPromise}
+use Rattle.calls.specs.Frames.{closes}
+use Rattle.console.specs.declared.pieces.Mark.{Mark}
+use Rattle.console.specs.declared.pieces.Mark.the-variants.{NoMark, Number}
 use Rattle.console.specs.declared.step.Step.{Step}
 use Rattle.console.specs.declared.step.Step.the-variants.{Refused, Waits, Used}
 use Rattle.console.specs.Served.{Serving, FrameServed}

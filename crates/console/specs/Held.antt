@@ -7,7 +7,7 @@ use mathlib.Core.Option.{some}
 use mathlib.Core.Path.{_≡_}
 use lib.ListN.{length, getD, set}
 use Rattle.key.specs.Bytes.{Bytes, part}
-use Rattle.registry.specs.Frames as F
+use Rattle.calls.specs.Frames as F
 use Rattle.console.specs.declared.line.Given.{Given}
 use Rattle.console.specs.declared.rest.Kept.{Kept}
 use Rattle.console.specs.Line.{givenAs}

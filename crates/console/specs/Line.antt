@@ -6,7 +6,7 @@ use mathlib.Core.Bool.{true}
 use mathlib.Core.Path.{_≡_}
 use lib.ListN.{length, take, drop}
 use Rattle.key.specs.Bytes.{Bytes}
-use Rattle.registry.specs.Frames as F
+use Rattle.calls.specs.Frames as F
 use Rattle.console.specs.declared.line.Given.{Given}
 use Rattle.console.specs.declared.line.Given.the-variants.{Frame, Malformed}
 use Rattle.console.specs.declared.line.Pair.{Pair}

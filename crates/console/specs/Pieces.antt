@@ -4,9 +4,9 @@ use mathlib.Core.Bool.{Bool, true, false}
 use mathlib.Core.List.{List, [], _∷_, _++_, map}
 use Rattle.key.specs.Bytes.{Bytes, bytes, concat}
 use Rattle.number.specs.Decimal.{digits}
-use Rattle.registry.specs.Frames.{hex}
-use Rattle.console.specs.declared.answer.Mark.{Mark}
-use Rattle.console.specs.declared.answer.Mark.the-variants.{NoMark, Number, Dropped}
+use Rattle.calls.specs.Frames.{hex}
+use Rattle.console.specs.declared.pieces.Mark.{Mark}
+use Rattle.console.specs.declared.pieces.Mark.the-variants.{NoMark, Number, Dropped}
 
 -- two digits of session and a space
 unfoldable pub headText : ℕ → Bytes

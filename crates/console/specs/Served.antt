@@ -8,11 +8,11 @@ use lib.Dec.{leb}
 use lib.ListN.{length}
 use Rattle.key.specs.Bytes.{Bytes}
 use Rattle.server.specs.Session.{Session}
-use Rattle.registry.specs.Serve.{State}
-use Rattle.registry.specs.Calls.{Lent, valid, storeOf, sessionOf}
-use Rattle.registry.specs.Frames.{Frame, requests, hex, Given, Console, answerGiven}
-use Rattle.console.specs.declared.answer.Mark.{Mark}
-use Rattle.console.specs.declared.answer.Mark.the-variants.{Dropped}
+use Rattle.calls.specs.Serve.{State}
+use Rattle.calls.specs.Calls.{Lent, valid, storeOf, sessionOf}
+use Rattle.calls.specs.Frames.{Frame, requests, hex, Given, Console, answerGiven}
+use Rattle.console.specs.declared.pieces.Mark.{Mark}
+use Rattle.console.specs.declared.pieces.Mark.the-variants.{Dropped}
 use Rattle.console.specs.Pieces.{headText, endText, markText, some?}
 
 -- f i, f (i + 1), ..: n of them

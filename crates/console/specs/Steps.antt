@@ -8,8 +8,8 @@ use lib.ListN.{length, drop}
 use Rattle.key.specs.Bytes.{Bytes}
 use Rattle.resp.specs.Request.{readRequest}
 use Rattle.server.specs.declared.Answer.{Answer}
-use Rattle.registry.specs.Calls.{Lent, valid, RequestPromise}
-use Rattle.registry.specs.Frames.{closes}
+use Rattle.calls.specs.Calls.{Lent, valid, lentOf, RequestPromise}
+use Rattle.calls.specs.Frames.{closes}
 use Rattle.console.specs.Served.{Serving, FrameServed}
 use Rattle.console.specs.declared.step.Ended.{Ended}
 use Rattle.console.specs.declared.step.Step.{Step}
@@ -32,10 +32,6 @@ pub record StepPromise (i : ℕ) (s buffer : Bytes) (l : Lent) (r : Step) (buffe
 -- whether a reply byte was written, after n more
 unfoldable pub repliedAfter : Bool → ℕ → Bool
 repliedAfter replied n = cond (ltb 0 n) true replied
-
--- the lent state, from its four buffers
-abbrev pub lentOf : List ℕ → Bytes → List ℕ → Bytes → Lent
-lentOf w b sw sb = record { words = w; bytes = b; sessionWords = sw; sessionBytes = sb }
 
 -- WITHIN THE LOOP over the bytes `held` of a frame: `from` is the place of the first request that is left
 pub record Stepping (i : ℕ) (held : Bytes) (l₀ : Lent) (replied : Bool) (from : ℕ) (l : Lent) : Type 0 where

@@ -1,7 +1,7 @@
 // The lines of the program `frames`: a line read, the pieces of an answer, and the rest that a session keeps.
-pub mod answer;
 pub mod held;
 pub mod line;
+pub mod pieces;
 pub mod quit;
 pub mod rest;
 pub mod step;

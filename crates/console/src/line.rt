@@ -2,7 +2,7 @@
 ghost use mathlib.Core.Path.{_≡_};
 ghost use Prim.Native.Nat.{_+_, _*_, _≤_};
 ghost use lib.ListN.{length};
-ghost use Rattle.registry.specs.Frames.{hexValue};
+ghost use Rattle.calls.specs.Frames.{hexValue};
 ghost use Rattle.console.specs.Line.{orSixteen, pairOf, Decodes, HeadRead, Room, LineRead};
 
 // A line of the form, with its session and the count of its bytes; or a line of another form.

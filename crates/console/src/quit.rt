@@ -1,14 +1,14 @@
 // Whether a request drops the rest of its frame: QUIT and a protocol error do.
+use encode::refusal;
 use resp::Read;
 use resp::Span;
-use resp::refusal;
 use resp::request;
 use server::names;
 use server::names::Control;
 ghost use mathlib.Core.Path.{_≡_};
 ghost use lib.ListN.{length};
 ghost use Rattle.resp.specs.Request.{readRequest};
-ghost use Rattle.registry.specs.Frames.{closes};
+ghost use Rattle.calls.specs.Frames.{closes};
 ghost use Rattle.console.specs.Quit.{quitsSaid, quits};
 
 fn is_quit(control: Control) -> bool

@@ -1,5 +1,5 @@
 // One request of a frame: what its call answered, as the loop over the frame's requests goes on.
-use crate::answer::Mark;
+use crate::pieces::Mark;
 use crate::quit;
 use server::Answer;
 ghost use mathlib.Core.Path.{_≡_};

@@ -36,7 +36,7 @@ use Rattle.server.specs.Command.{Effect, put, pairsOf, live, held, raised}
 use Rattle.server.specs.Errors.{fixedReply}
 use Rattle.server.specs.Places.{argumentsAt, lengthsAt, PartsIn}
 use Rattle.server.proofs.Parts.{length-part}
-use Rattle.server.proofs.Queueing.{arguments-count}
+use Rattle.server.proofs.PlaceLaws.{arguments-count}
 use Rattle.direct.specs.Writes.{argumentIn, tombstonesAt, pairsAt, RoomForAll, HeaderIn, verdictLeft, verdictAnswer}
 use Rattle.answer.specs.Answers.{putAnswer}
 use Rattle.direct.specs.Served.{bufferAfter, Runs, Admitted, deletion, counted, integerText, AdmittedText, RunsText}

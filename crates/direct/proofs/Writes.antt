@@ -20,7 +20,7 @@ use Rattle.batch.specs.declared.Verdict.the-variants.{Accepted, NoRoom, NoSeque
 use Rattle.batch.proofs.SizeLaws.{left-rest, left-then, short-then}
 use Rattle.server.specs.Command.{tombstone, put, pairsOf}
 use Rattle.server.specs.Places.{argumentsAt, lengthsAt, PartsIn}
-use Rattle.server.proofs.Queueing.{lengths-next, lengths-end}
+use Rattle.server.proofs.PlaceLaws.{lengths-next, lengths-end}
 use Rattle.direct.specs.Writes.{argumentIn, ArgumentIn, tombstonesAt, pairsAt, RoomForAll, verdictLeft}
 use Rattle.direct.proofs.Commits.{Commits, commits-none, commits-valid, commits-words, commits-bytes, commits-more}
 

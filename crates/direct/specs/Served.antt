@@ -15,9 +15,9 @@ use Rattle.batch.specs.declared.Verdict.{Verdict}
 use Rattle.batch.specs.declared.Verdict.the-variants.{Accepted, Conflict, NoRoom, NoSequence, NotTaken}
 use Rattle.batch.specs.Group.{plain, verdictAlone}
 use Rattle.server.specs.declared.Answer.{Answer}
-use Rattle.server.specs.Command.{Effect, live}
+use Rattle.server.specs.Command.{Effect, Executed, live}
 use Rattle.server.specs.Places.{argumentsAt}
-use Rattle.server.specs.Session.{Session, committed}
+use Rattle.server.specs.Session.{Session, committed, direct}
 use Rattle.direct.specs.Reading.{lastReader}
 use Rattle.direct.specs.Writes.{tombstonesAt, RoomForAll}
 use Rattle.server.specs.Finish.{Served, finish, Says, StoreLeft}
@@ -65,3 +65,8 @@ pub record AdmittedText (k : Key) (text : Bytes) (used : ℕ) (out : Bytes) (w :
 
 pub record RunsText (k : Key) (text : Bytes) (used : ℕ) (out : Bytes) (w : List ℕ) (b : Bytes) (r : Answer) (out′ : Bytes) (w′ : List ℕ) (b′ : Bytes) : Type 0 where
   pub is : (n : ℤ) → text ≡ decimal n → Runs (counted k n) used out w b r out′ w′ b′
+
+-- a command outside MULTI by what it means, whatever the session
+pub record Answers (x : Executed) (used : ℕ) (out : Bytes) (w : List ℕ) (b : Bytes) (r : Answer) (out′ : Bytes) (w′ : List ℕ) (b′ : Bytes) : Type 0 where
+  pub says : (s : Session) → Says (finish (length out) used (direct x (storeIn w b) s) (storeIn w b) s) out r out′
+  pub left : (s : Session) → StoreLeft (finish (length out) used (direct x (storeIn w b) s) (storeIn w b) s) w b w′ b′

@@ -1,9 +1,9 @@
 // What a command outside MULTI reads: the store at its last sequence, through no writes of its own.
+use encode::reply;
 use number::Number;
 use reading::counter;
 use reading::live;
 use reading::values;
-use resp::reply;
 use writing::Put;
 ghost use mathlib.Core.Path.{_≡_};
 ghost use Prim.Native.Nat.{_-_, _^_, _≤_, _<_};

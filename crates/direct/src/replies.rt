@@ -1,7 +1,7 @@
 // The commands outside MULTI that write nothing: the reply is put, and the answer is made of it.
 use crate::read;
 use crate::room;
-use resp::reply;
+use encode::reply;
 use server::Answer;
 use server::errors;
 use server::errors::Fixed;
@@ -10,7 +10,7 @@ ghost use mathlib.Core.List.{[]};
 ghost use lib.IntN.{pos};
 ghost use lib.ListN.{length, replicate};
 ghost use Prim.Native.Nat.{_-_, _^_, _≤_, _<_};
-ghost use Rattle.resp.specs.Reply.{Integer, BulkString, bulkOr};
+ghost use Rattle.resp.specs.Reply.{Integer, BulkString, Nil, bulkOr};
 ghost use Rattle.memtable.specs.Layout.{lastWord};
 ghost use Rattle.memtable.specs.Rows.{Valid};
 ghost use Rattle.server.specs.Command.{unknownCommand, live};
@@ -87,6 +87,17 @@ pub fn answer_arity(word: &[u8], used: usize, words: &[u64], bytes: &[u8], out: 
     ensures { λ r. ⌜ Runs (arityOf (now (word .entry)), []) used (now (out .entry)) (now (words .entry)) (now (bytes .entry)) r (now (out .exit)) (now (words .entry)) (now (bytes .entry)) ⌝ }
 {
     let put = errors::put_arity(out, word);
+    answer::put_answer(put, used)
+}
+
+// Nil.
+pub fn answer_nil(used: usize, words: &[u64], bytes: &[u8], out: &mut [u8]) -> Answer
+    requires { ⌜ Valid (now words) (now bytes) ⌝ }
+    requires { ⌜ lastWord (now words) < 2 ^ 64 ⌝ }
+    requires { ⌜ now out ≡ replicate (length (now out)) 0 ⌝ }
+    ensures { λ r. ⌜ Runs (Nil, []) used (now (out .entry)) (now (words .entry)) (now (bytes .entry)) r (now (out .exit)) (now (words .entry)) (now (bytes .entry)) ⌝ }
+{
+    let put = reply::put_nil(out);
     answer::put_answer(put, used)
 }
 

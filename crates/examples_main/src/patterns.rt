@@ -1,5 +1,4 @@
 // Patterns: the examples of the page on KEYS without brackets, and those of document 01, section 7.
-use server::glob;
 
 fn matches(pattern: &[u8], name: &[u8]) {
     show::text(b"pattern '");

@@ -1,6 +1,6 @@
 // The RESP2 specification: each example value, encoded, and its requests, read.
-use resp::array;
-use resp::reply;
+use encode::array;
+use encode::reply;
 use server::errors;
 
 pub fn simple() {

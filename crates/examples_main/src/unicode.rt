@@ -1,5 +1,5 @@
 // The Unicode Standard, chapter 3: one U+FFFD for each maximal subpart of an ill-formed sequence.
-use resp::clean;
+use encode::clean;
 use resp::clean::Letters;
 
 fn lossy(label: &[u8], text: &[u8]) {

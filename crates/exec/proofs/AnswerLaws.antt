@@ -22,9 +22,9 @@ use Rattle.server.specs.Places.{argumentsAt, PartsIn}
 use Rattle.own.specs.Own.{readerOf}
 use Rattle.reading.specs.See.{valueReplies}
 use Rattle.reading.proofs.Arguments.{live-within}
-use Rattle.exec.specs.declared.Read.{Read}
-use Rattle.exec.specs.declared.Read.the-variants.{Value, Live, Values, Echo, Says, Arity, Unknown, Nothing}
-use Rattle.exec.specs.Kinds.{liveReply, readReply, leastRead}
+use Rattle.command.specs.declared.Read.{Read}
+use Rattle.command.specs.declared.Read.the-variants.{Value, Live, Values, Echo, Says, Arity, Unknown, Nothing}
+use Rattle.command.specs.Kinds.{liveReply, readReply, leastRead}
 
 pub arguments-of : (p : List ℕ) (d : Bytes) (count : ℕ) → 1 ≤ count → arguments (argumentsAt 0 count p d) ≡ argumentsAt 1 (count - 1) p d
 unfolding argumentsAt

@@ -25,7 +25,7 @@ use Rattle.server.specs.Session.{Session, Done, clear, says, returns}
 use Rattle.server.specs.Sessions.{sessionFrom}
 use Rattle.server.specs.Held.{Held, Left, cleared}
 use Rattle.server.specs.Finish.{Served, silent, finishBy, finish}
-use Rattle.server.proofs.Kept.{words-kept, bytes-kept, bytes-cleared}
+use Rattle.sessions.proofs.Kept.{words-kept, bytes-kept, bytes-cleared}
 use Rattle.memtable.proofs.TableLaws.{Ascending}
 use Rattle.own.specs.Own.{ownWrites, Own}
 use Rattle.own.proofs.Growing.{own-count, own-sizes}

@@ -34,7 +34,7 @@ use Rattle.reading.specs.declared.Raised.{Raised}
 use Rattle.reading.specs.Raise.{raisedEffect}
 use Rattle.number.specs.declared.Number.{Number}
 use Rattle.exec.specs.declared.Walked.{Walked}
-use Rattle.exec.specs.Kinds.{counterEffect}
+use Rattle.command.specs.Kinds.{counterEffect}
 use Rattle.exec.specs.Walks.{TextPut, Advanced}
 use mathlib.Core.Bool.{Bool, true, false, _||_}
 use Rattle.resp.specs.Reply.{Integer, encode}

@@ -31,7 +31,7 @@ use Rattle.server.specs.Held.{Held}
 use Rattle.server.specs.Lent.{OneSession}
 use Rattle.server.specs.Finish.{finish}
 use Rattle.server.proofs.SessionLaws.{ranBy, execute-failed}
-use Rattle.server.proofs.Kept.{held-by-tests, keys-held, queue-count}
+use Rattle.sessions.proofs.Kept.{held-by-tests, keys-held, queue-count}
 use Rattle.own.specs.Own.{ownWrites}
 use Rattle.exec.specs.declared.Walked.{Walked}
 use Rattle.exec.specs.Progress.{Progress, begun, advanceAll}

@@ -15,9 +15,9 @@ use Rattle.server.specs.Held.{Held, written}
 use Rattle.server.specs.Places.{argumentsAt, PartsIn, placesOf, Expandable}
 use Rattle.server.proofs.Parts.{length-part}
 use Rattle.server.proofs.SplitLaws.{split-whole}
-use Rattle.server.proofs.Validity.{capped-low}
-use Rattle.server.proofs.Kept.{queue-counts}
-use Rattle.server.proofs.Expanding.{expanded}
+use Rattle.sessions.proofs.Validity.{capped-low}
+use Rattle.sessions.proofs.Kept.{queue-counts}
+use Rattle.sessions.proofs.Expanding.{expanded}
 use Rattle.exec.specs.Walks.{Queued, commandsIn}
 use Rattle.exec.specs.Leaving.{LaidOut}
 use Rattle.exec.proofs.WalkLaws.{grown-arguments}

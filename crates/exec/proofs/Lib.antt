@@ -4,7 +4,6 @@ pub mod ClosingLaws
 pub mod CounterLaws
 pub mod ExecLaws
 pub mod KeyLaws
-pub mod KindLaws
 pub mod LayoutLaws
 pub mod Progress
 pub mod QueuedLaws

@@ -19,10 +19,10 @@ use Rattle.server.specs.Places.{argumentsAt}
 use Rattle.command.specs.Meant.{InPairs}
 use Rattle.own.specs.Own.{ownWrites, Own, readerOf}
 use Rattle.exec.specs.declared.Walked.{Walked}
-use Rattle.exec.specs.declared.Read.{Read}
-use Rattle.exec.specs.declared.Kind.{Kind}
-use Rattle.exec.specs.declared.Kind.the-variants.{Pairs, Tombstones, Counter, Reads}
-use Rattle.exec.specs.Kinds.{readReply, leastRead, pairsEffect, tombstonesEffect, counterEffect, kindEffect, kindChecks, KindCounted, KindIs}
+use Rattle.command.specs.declared.Read.{Read}
+use Rattle.command.specs.declared.Kind.{Kind}
+use Rattle.command.specs.declared.Kind.the-variants.{Pairs, Tombstones, Counter, Reads}
+use Rattle.command.specs.Kinds.{readReply, leastRead, pairsEffect, tombstonesEffect, counterEffect, kindEffect, kindChecks, KindCounted, KindIs}
 use Rattle.exec.specs.Walks.{Ran, Advanced}
 
 -- THE ARGUMENT COUNT of each kind

@@ -22,7 +22,7 @@ use Rattle.command.specs.Meant.{InPairs}
 use Rattle.own.specs.Own.{ownWrites, readerOf}
 use Rattle.own.specs.Changes.{OwnPuts, tombstonesAt, pairsAt}
 use Rattle.exec.specs.declared.Walked.{Walked}
-use Rattle.exec.specs.Kinds.{liveReply, pairsEffect, tombstonesEffect}
+use Rattle.command.specs.Kinds.{liveReply, pairsEffect, tombstonesEffect}
 use Rattle.exec.specs.Walks.{Ran}
 use Rattle.exec.proofs.AnswerLaws.{arguments-of}
 use Rattle.exec.proofs.KeyLaws.{tombstone-keys}

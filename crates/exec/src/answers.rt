@@ -1,9 +1,9 @@
 // The replies of the commands that write nothing.
-use crate::Read;
+use command::Read;
 use command::arguments::argument;
+use encode::reply;
 use reading::live;
 use reading::values;
-use resp::reply;
 use server::errors;
 use writing::Put;
 ghost use mathlib.Core.Path.{_≡_};
@@ -14,7 +14,7 @@ ghost use Rattle.resp.specs.Reply.{encode};
 ghost use Rattle.memtable.specs.Rows.{Valid};
 ghost use Rattle.server.specs.Places.{argumentsAt, PartsIn};
 ghost use Rattle.own.specs.Own.{Own, readerOf};
-ghost use Rattle.exec.specs.Kinds.{readReply, leastRead, liveReply};
+ghost use Rattle.command.specs.Kinds.{readReply, leastRead, liveReply};
 
 // A count as a whole number.
 fn int_of(n: u64) -> i64

@@ -2,7 +2,7 @@
 use batch::ascending;
 use batch::settle;
 use server::Answer;
-use server::changes;
+use sessions::changes;
 use writing::Put;
 ghost use mathlib.Core.Path.{_≡_};
 ghost use lib.ListN.{length};

@@ -2,12 +2,12 @@
 use crate::Walked;
 use crate::keys;
 use command::arguments::argument;
+use encode::reply;
 use memtable::read;
 use number::decimal;
 use own::write;
 use reading::Raised;
 use reading::counter;
-use resp::reply;
 use server::errors;
 use server::errors::Fixed;
 use writing::Put;
@@ -25,7 +25,7 @@ ghost use Rattle.server.specs.Places.{argumentsAt, PartsIn};
 ghost use Rattle.own.specs.Own.{Own, readerOf};
 ghost use Rattle.own.specs.Changes.{OwnPut};
 ghost use Rattle.reading.specs.Raise.{raisedEffect};
-ghost use Rattle.exec.specs.Kinds.{counterEffect};
+ghost use Rattle.command.specs.Kinds.{counterEffect};
 ghost use Rattle.exec.specs.Walks.{TextPut, Advanced};
 
 // What the counter that argument 1 names is raised to.

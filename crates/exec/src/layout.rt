@@ -1,6 +1,5 @@
 // The working memory of an EXEC: the places of the queued arguments, and a copy of the bytes that they lie in.
-use server::queue;
-use server::sessions;
+use sessions::queue;
 ghost use mathlib.Core.Path.{_≡_};
 ghost use mathlib.Core.Bool.{true};
 ghost use Prim.Native.Nat.{_≤_};

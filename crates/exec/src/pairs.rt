@@ -10,7 +10,7 @@ ghost use Rattle.memtable.specs.Rows.{Valid};
 ghost use Rattle.command.specs.Meant.{InPairs};
 ghost use Rattle.server.specs.Places.{argumentsAt, PartsIn};
 ghost use Rattle.own.specs.Own.{Own};
-ghost use Rattle.exec.specs.Kinds.{pairsEffect};
+ghost use Rattle.command.specs.Kinds.{pairsEffect};
 ghost use Rattle.exec.specs.Walks.{Ran};
 ghost use mathlib.Core.List.{[]};
 

@@ -1,13 +1,12 @@
 // One queued command run, and all of them.
-use crate::Kind;
 use crate::Walked;
 use crate::answers;
 use crate::counters;
-use crate::kinds;
 use crate::pairs;
 use crate::tombstones;
-use resp::reply;
-use server::sessions;
+use command::Kind;
+use command::kinds;
+use encode::reply;
 ghost use Prim.Native.Nat.{_+_, _-_, _*_, _≤_};
 ghost use lib.ListN.{length, getD, take};
 ghost use Rattle.memtable.specs.Rows.{Valid, versionsIn};

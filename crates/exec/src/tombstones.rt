@@ -9,7 +9,7 @@ ghost use lib.ListN.{length};
 ghost use Rattle.memtable.specs.Rows.{Valid};
 ghost use Rattle.server.specs.Places.{argumentsAt, PartsIn};
 ghost use Rattle.own.specs.Own.{Own, readerOf};
-ghost use Rattle.exec.specs.Kinds.{tombstonesEffect};
+ghost use Rattle.command.specs.Kinds.{tombstonesEffect};
 ghost use Rattle.exec.specs.Walks.{Ran};
 
 // Answers how many of the keys are live, and sets a tombstone for each.

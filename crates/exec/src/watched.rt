@@ -1,6 +1,5 @@
 // Has a watched key moved?
 use memtable::read;
-use server::sessions;
 ghost use mathlib.Core.Path.{_≡_};
 ghost use Rattle.memtable.specs.Versions.{moved};
 ghost use Rattle.memtable.specs.Rows.{Valid, versionsIn};

@@ -11,7 +11,7 @@ use Rattle.writing.specs.declared.Put.{Put}
 use Rattle.writing.specs.Puts.{Puts, Adds}
 use Rattle.writing.proofs.Puts.{same-text, length-kept}
 use Rattle.resp.specs.Reply.{Reply, BulkString, array, head, encode}
-use Rattle.resp.proofs.Replies.{Listed, listed-none, listed-more, listed-all}
+use Rattle.encode.proofs.Replies.{Listed, listed-none, listed-more, listed-all}
 use Rattle.memtable.specs.declared.Found.{Found}
 use Rattle.memtable.specs.declared.Found.the-variants.{At, Nothing}
 use Rattle.memtable.specs.Table.{Value, Entry, Table}

@@ -2,11 +2,11 @@
 use mathlib.Core.Path.{_≡_, refl, sym, ap, _∙_}
 use mathlib.Core.Bool.{cond}
 use mathlib.Core.List.{List, [], _++_, map, append-assoc, append-nil}
-use Prim.Native.Nat.{ℕ, _+_, _-_, _≤_, _<_}
+use Prim.Native.Nat.{ℕ, suc, _+_, _-_, _≤_, _<_}
 use native.Mathlib.Decide.{decLe}
 use native.Mathlib.Omega.{arith}
 use lib.Dec.{ltb}
-use lib.ListN.{length, take, drop, drop-of-length-le}
+use lib.ListN.{length, take, drop, length-drop, drop-of-length-le}
 use lib.Seq.{drop-nil, drop-cons, drop-drop}
 use borrow.Author.Tests.{lt-ltb, le-ltb}
 use Rattle.key.specs.Bytes.{Bytes}
@@ -26,7 +26,7 @@ use Rattle.server.specs.Command.{SCAN, keep, keyReply, scanned, answerListing}
 use Rattle.server.specs.Glob.{glob}
 use Rattle.listing.specs.Rest.{rest, matching, keysReply, SeenFrom, cursorBefore}
 use Rattle.listing.proofs.Matching.{seen-keys}
-use Rattle.listing.proofs.Rests.{rest-all, rest-none, rest-some, drop-first}
+use Rattle.listing.proofs.Rests.{rest-all, rest-few, rest-none, rest-some, drop-first}
 
 -- the walk at place i, with `left` of `count` entries still to be skipped
 pub record Skipping (w b : List ℕ) (count i left : ℕ) : Type 0 where
@@ -59,6 +59,18 @@ module _ (w b : List ℕ) (i end : ℕ) {o : Found} (is : o ≡ nextLive w b i (
   pub cursor-more : {j : ℕ} → o ≡ At j → end ≡ cursorBefore (rest w b i) end
   unfolding cursorBefore
   cursor-more e = ap (λ (t : Table). cursorBefore t end) (sym (rest-some w b i is e))
+
+-- where an entry follows, the sum is below the number of entries
+pub cursor-fits : (w b : List ℕ) (i from most : ℕ) {o : Found} {j : ℕ} → o ≡ nextLive w b i (countWord w - i) → o ≡ At j → rest w b i ≡ drop most (drop from (rest w b 0)) → from + most < countWord w
+cursor-fits w b i from most {j = j} is e stop =
+    let there : length (drop (from + most) (rest w b 0)) ≡ suc (length (rest w b (j + 1))) =
+    ap length (sym (drop-drop most from (rest w b 0)) ∙ sym stop ∙ rest-some w b i is e) in
+    omega (arith, there, length-drop (from + most) (rest w b 0), rest-few w b 0)
+
+-- the walk stops behind the skipped entries and those that it saw
+pub walk-stop : {w b p : List ℕ} (from most : ℕ) {at matched next : ℕ} → rest w b at ≡ drop from (rest w b 0) → SeenFrom w b p at most matched next
+    → rest w b next ≡ drop most (drop from (rest w b 0))
+walk-stop from most skipped seen = seen .stop ∙ ap (drop most) skipped
 
 -- by how many entries there are
 cursor-is : (n end : ℕ) (t : Table) → cursorBefore (drop n t) end ≡ cond (ltb n (length t)) end 0

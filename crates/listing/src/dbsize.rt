@@ -1,6 +1,6 @@
 // DBSIZE.
+use encode::reply;
 use memtable::live;
-use resp::reply;
 use writing::Put;
 ghost use Rattle.writing.specs.Puts.{Puts};
 ghost use Rattle.resp.specs.Reply.{encode};

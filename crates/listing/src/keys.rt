@@ -1,9 +1,8 @@
 // The keys that match a pattern: KEYS, and what SCAN lists.
+use encode::reply;
 use memtable::Found;
 use memtable::live;
 use memtable::read;
-use resp::reply;
-use server::glob;
 use writing::Put;
 ghost use mathlib.Core.Path.{_≡_};
 ghost use Prim.Native.Nat.{_≤_};

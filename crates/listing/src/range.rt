@@ -1,9 +1,9 @@
 // RANGE.
+use encode::reply;
 use key::Order;
 use memtable::Found;
 use memtable::live;
 use memtable::read;
-use resp::reply;
 use writing::Put;
 ghost use mathlib.Core.Path.{_≡_};
 ghost use mathlib.Core.List.{_++_};

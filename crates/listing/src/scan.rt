@@ -1,11 +1,11 @@
 // SCAN.
 use crate::keys;
+use encode::reply;
 use memtable::Found;
 use memtable::live;
-use resp::reply;
 use writing::Put;
 ghost use mathlib.Core.Path.{_≡_};
-ghost use Prim.Native.Nat.{_<_, _≤_, _^_};
+ghost use Prim.Native.Nat.{_+_, _≤_};
 ghost use lib.ListN.{length, take, drop};
 ghost use Rattle.writing.specs.Puts.{Puts, Adds};
 ghost use Rattle.resp.specs.Reply.{encode};
@@ -34,15 +34,16 @@ fn skip(words: &[u64], bytes: &[u8], count: u64) -> usize
     i
 }
 
-// The next cursor: `end`, or 0 where no entry follows from `next` on.
-fn cursor(words: &[u64], bytes: &[u8], next: usize, end: u64) -> u64
+// The next cursor: behind the `most` entries from `from` on, or 0 where no entry follows from `next` on.
+fn cursor(words: &[u64], bytes: &[u8], next: usize, from: u64, most: u64) -> u64
     requires { ⌜ Valid (now words) (now bytes) ⌝ }
-    ensures { λ r. ⌜ r ≡ cursorBefore (rest (now (words .entry)) (now (bytes .entry)) next) end ⌝ }
+    requires { ⌜ rest (now words) (now bytes) next ≡ drop most (drop from (rest (now words) (now bytes) 0)) ⌝ }
+    ensures { λ r. ⌜ r ≡ cursorBefore (rest (now (words .entry)) (now (bytes .entry)) next) (from + most) ⌝ }
 {
     let found = live::next_live(words, bytes, next);
     match found {
         Found::Nothing => 0,
-        Found::At(_) => end,
+        Found::At(_) => from + most,
     }
 }
 
@@ -75,13 +76,11 @@ pub fn put_scan(
     most: u64,
 ) -> Put
     requires { ⌜ Valid (now words) (now bytes) ⌝ }
-    requires { ⌜ from < 2 ^ 63 ⌝ }
-    requires { ⌜ most < 2 ^ 63 ⌝ }
     ensures { λ r. ⌜ Puts (encode (answerListing (table (versionsIn (now (words .entry)) (now (bytes .entry)))) (SCAN from (now (pattern .entry)) most))) (now (out .entry)) r (now (out .exit)) ⌝ }
 {
     let at = skip(words, bytes, from);
     let seen = keys::count_matches(words, bytes, pattern, at, most);
-    let follows = cursor(words, bytes, seen.next, from + most);
+    let follows = cursor(words, bytes, seen.next, from, most);
     let head = reply::put_head(out, b'*', 2);
     let line = reply::then_bulk_digits(out, head, follows);
     then_matches(out, line, words, bytes, pattern, at, seen.matched)

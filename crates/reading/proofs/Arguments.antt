@@ -14,7 +14,7 @@ use Rattle.memtable.specs.Walk.{isLive}
 use Rattle.batch.specs.Settling.{keyPart, KeyIn}
 use Rattle.server.specs.Command.{liveOne, live}
 use Rattle.server.specs.Places.{argumentsAt, PartsIn}
-use Rattle.server.proofs.Queueing.{arguments-count}
+use Rattle.server.proofs.PlaceLaws.{arguments-count}
 use Rattle.reading.specs.See.{CountsOne}
 
 module _ (places : List ℕ) (input : Bytes) where

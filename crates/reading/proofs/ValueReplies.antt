@@ -11,13 +11,13 @@ use Rattle.writing.specs.declared.Put.{Put}
 use Rattle.writing.specs.Puts.{Puts, Adds}
 use Rattle.writing.proofs.Puts.{length-kept, same-added, then-follows}
 use Rattle.resp.specs.Reply.{BulkString, Nil, head, encode, array, bulkOr}
-use Rattle.resp.proofs.Replies.{Listed, listed-none, listed-more, listed-all}
+use Rattle.encode.proofs.Replies.{Listed, listed-none, listed-more, listed-all}
 use Rattle.memtable.specs.Table.{Reader}
 use Rattle.memtable.specs.Layout.{valuePart}
 use Rattle.batch.specs.Members.{writeAt}
 use Rattle.batch.specs.Settling.{keyPart}
 use Rattle.server.specs.Places.{argumentsAt}
-use Rattle.server.proofs.Queueing.{arguments-count}
+use Rattle.server.proofs.PlaceLaws.{arguments-count}
 use Rattle.own.specs.Own.{readerOf}
 use Rattle.reading.specs.declared.Seen.{Seen}
 use Rattle.reading.specs.declared.Seen.the-variants.{Written, Stored, Absent}

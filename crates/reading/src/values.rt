@@ -2,8 +2,8 @@
 use crate::Seen;
 use crate::see;
 use batch::parts;
+use encode::reply;
 use memtable::read;
-use resp::reply;
 use writing::Put;
 ghost use Prim.Native.Nat.{_-_, _≤_};
 ghost use Rattle.writing.specs.Puts.{Puts, Adds};

@@ -1,6 +1,6 @@
 // An LF at offset 65,536 from the line's start passes, one at 65,537 does not; 65,536 bytes without LF wait, 65,537 do not.
+use encode::refusal;
 use resp::Span;
-use resp::refusal;
 
 fn letters() -> [u8; 65600] {
     [b'a'; 65600]

@@ -1,6 +1,6 @@
 // The text of replies: CR and LF in simple and error text become spaces, and each item stands behind the one before it.
-use resp::array;
-use resp::reply;
+use encode::array;
+use encode::reply;
 use server::errors;
 use server::errors::Fixed;
 

@@ -14,7 +14,7 @@ use Rattle.memtable.proofs.Validity.{validated}
 use Rattle.batch.specs.declared.Member.{Member}
 use Rattle.batch.specs.Members.{membersInside, groupFits}
 use Rattle.batch.specs.Walked.{GroupReady, GroupLeft, groupOf}
-use Rattle.registry.specs.Calls.{StoreCalled, refusesStore, givesStore, judged, group-call, verdictBuffer, GroupPromise}
+use Rattle.calls.specs.Calls.{StoreCalled, refusesStore, givesStore, judged, group-call, verdictBuffer, GroupPromise}
 use Rattle.registry.specs.Numbers.{groupNumber}
 
 -- THE NUMBER, test by test

@@ -5,8 +5,8 @@ use mathlib.Core.Bool.{Bool, true, false, cond}
 use mathlib.Core.List.{List}
 use Rattle.memtable.specs.Layout.{buffersHold, emptyStore, leaveWords}
 use Rattle.memtable.proofs.Opening.{bytes-stay}
-use Rattle.registry.specs.Serve.{refused}
-use Rattle.registry.specs.Calls.{StoreCalled, refusesStore, givesStore, open-call, OpenPromise}
+use Rattle.calls.specs.Serve.{refused}
+use Rattle.calls.specs.Calls.{StoreCalled, refusesStore, givesStore, open-call, OpenPromise}
 
 module _ (last n m : ℕ) (w b : List ℕ) {r : Bool} (is : r ≡ buffersHold w b n m) {w′ : List ℕ}
     (words-are : w′ ≡ cond (buffersHold w b n m) (leaveWords (emptyStore last n m) w) w) where

@@ -6,7 +6,7 @@ ghost use mathlib.Core.Path.{_≡_};
 ghost use Prim.Native.Nat.{_<_};
 ghost use lib.ListN.{length};
 ghost use Rattle.memtable.specs.Layout.{lastWord};
-ghost use Rattle.registry.specs.Calls.{GroupPromise};
+ghost use Rattle.calls.specs.Calls.{GroupPromise};
 ghost use Rattle.registry.specs.Numbers.{groupNumber};
 
 // The number that a group call returns: 9, then 8, or 0. `inside` says that no part lies outside its buffer.

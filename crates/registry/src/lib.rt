@@ -1,4 +1,5 @@
-// The published calls: opening a store, and a group of members.
+// The published calls: opening a store, a request of a session, and a group of members.
 
 pub mod group;
 pub mod open;
+pub mod request;

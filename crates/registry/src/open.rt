@@ -1,5 +1,5 @@
 // Opening a store in lent memory.
-ghost use Rattle.registry.specs.Calls.{OpenPromise};
+ghost use Rattle.calls.specs.Calls.{OpenPromise};
 
 // Opens an empty store with this last sequence and these capacities: 0, or 9 where the buffers do not hold them. It has no bytes, so those stay.
 pub fn open(words: &mut [u64], bytes: &[u8], last: u64, versions: usize, size: usize) -> u64

@@ -1,10 +1,7 @@
 // Commands and sessions (src/server.rs).
-pub mod changes;
 pub mod errors;
 pub mod glob;
 pub mod names;
-pub mod queue;
-pub mod sessions;
 pub mod watch;
 
 // The command that a name means.

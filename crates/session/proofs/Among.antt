@@ -13,7 +13,7 @@ use Rattle.key.specs.Bytes.{Bytes}
 use Rattle.server.specs.Sessions.{sessionFrom, sessionWords, sessionBytes, wordsOfSession, bytesOfSession, sessionAt, validSessions, leaveSessionWords, leaveSessionBytes}
 use Rattle.server.specs.Finish.{Served, SessionLeft}
 use Rattle.server.specs.Held.{Held}
-use Rattle.server.proofs.Kept.{session-held}
+use Rattle.sessions.proofs.Kept.{session-held}
 
 -- the part of `size` elements at place i, as it is lent, and put back
 abbrev pub lentAt : ℕ → ℕ → List ℕ → List ℕ

@@ -14,7 +14,7 @@ use Rattle.server.specs.Session.{Session, Done, says, returns, marked}
 use Rattle.server.specs.Sessions.{sessionFrom, sessionWords, sessionBytes}
 use Rattle.server.specs.Finish.{Served, silent, finishBy, finish, Says, SessionLeft}
 use Rattle.server.specs.Held.{Held, Left, cleared, opened, unwatched}
-use Rattle.server.proofs.Kept.{words-kept, bytes-kept, bytes-cleared, bytes-marked, bytes-opened, bytes-unwatched}
+use Rattle.sessions.proofs.Kept.{words-kept, bytes-kept, bytes-cleared, bytes-marked, bytes-opened, bytes-unwatched}
 use Rattle.answer.specs.Answers.{refusal, putAnswer}
 use Rattle.session.specs.Answers.{changing, same, Answered, Steered, Unchanged}
 use Rattle.answer.proofs.Finish.{Cleared, replied, finish-wrote, finish-full, says-wrote, full-cleared, says-number}

@@ -18,8 +18,8 @@ use Rattle.server.specs.Sessions.{queueIn, sessionFrom, queueOf}
 use Rattle.server.specs.Errors.{fixedReply}
 use Rattle.server.specs.Held.{Held, Left}
 use Rattle.server.specs.Places.{argumentsAt, PartsIn, QueueSizes, Takes, HasRoom, queuing, Appended}
-use Rattle.server.proofs.Kept.{queue-held, bytes-marked}
-use Rattle.server.proofs.Expanding.{has-room}
+use Rattle.sessions.proofs.Kept.{queue-held, bytes-marked}
+use Rattle.sessions.proofs.Expanding.{has-room}
 use Rattle.answer.specs.Answers.{refusal}
 use Rattle.session.specs.Answers.{Answered}
 use Rattle.session.specs.Routes.{queueing}

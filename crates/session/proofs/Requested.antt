@@ -20,7 +20,7 @@ use Rattle.server.specs.Lent.{OneSession}
 use Rattle.server.specs.Finish.{Served, silent, fitted, finishBy, finish, Says, SessionLeft}
 use Rattle.server.specs.Held.{Held}
 use Rattle.server.specs.Places.{argumentsAt}
-use Rattle.server.proofs.Kept.{queue-held, held-by-tests}
+use Rattle.sessions.proofs.Kept.{queue-held, held-by-tests}
 use Rattle.server.proofs.SessionLaws.{SessionSound, respond-kept}
 use Rattle.server.proofs.LayoutLaws.{session-sound, session-valid, words-long, bytes-long}
 use Rattle.session.specs.declared.routes.Step.{Step}

@@ -24,10 +24,10 @@ use Rattle.server.specs.Errors.{fixedReply, arityOf}
 use Rattle.server.specs.Held.{Held}
 use Rattle.server.specs.Places.{argumentsAt}
 use Rattle.server.specs.Watch.{Holding, GrownTo, keysWith, watchingWith, WatchPut}
-use Rattle.server.proofs.Kept.{words-kept, bytes-kept}
-use Rattle.server.proofs.Queueing.{arguments-count}
-use Rattle.server.proofs.Watching.{grown-full, grown-holding}
-use Rattle.server.proofs.WatchCall.{keys-with, all-watched}
+use Rattle.sessions.proofs.Kept.{words-kept, bytes-kept}
+use Rattle.server.proofs.PlaceLaws.{arguments-count}
+use Rattle.sessions.proofs.Watching.{grown-full, grown-holding}
+use Rattle.sessions.proofs.WatchCall.{keys-with, all-watched}
 use Rattle.server.proofs.ErrorTexts.{arity-as-sent}
 use Rattle.answer.specs.Answers.{refusal}
 use Rattle.session.specs.Answers.{changing, same, Answered, Unchanged}

@@ -1,4 +1,5 @@
 -- The definitions of this crate.
 pub mod Answers
+pub mod Responds
 pub mod Routes
 pub mod Watches

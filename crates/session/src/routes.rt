@@ -1,8 +1,8 @@
 // Which of the ways to answer a request has, by the session and the row of its name.
-use server::changes;
 use server::errors::Fixed;
 use server::names;
 use server::names::Control;
+use sessions::changes;
 ghost use mathlib.Core.Path.{_≡_};
 ghost use Prim.Native.Nat.{_<_};
 ghost use lib.ListN.{length, getD};

@@ -1,10 +1,10 @@
 // Lines on standard output for the programs that run worked examples. Bytes are written as in a byte string:
 // CR, LF and `\` are escaped, and a byte outside ASCII's printed ones is `\x` and two digits.
+use encode::refusal;
 use libc::STDOUT_FILENO;
 use resp::Fault;
 use resp::Read;
 use resp::Span;
-use resp::refusal;
 use resp::request;
 use writing::Put;
 ghost use Prim.Native.Nat.{_<_};

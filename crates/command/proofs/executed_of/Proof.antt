@@ -1,5 +1,5 @@
 -- `command::executed_of` meets its contract. The row that the look-up finds is the name's. Assumes nothing.
-use Rattle.server.proofs.Queueing.{arguments-count}
+use Rattle.server.proofs.PlaceLaws.{arguments-count}
 use Rattle.command.proofs.NameLaws.{right-named, right-count, wrong-count}
 use borrow.Author.Needs.{needs}
 use Rattle.command.proofs.executed_of.Statement.{statement}

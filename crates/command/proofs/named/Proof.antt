@@ -1,6 +1,6 @@
 -- `command::named` meets its contract. One law for each arm. Assumes nothing.
 use Rattle.server.specs.Command.{executedAs}
-use Rattle.server.proofs.Queueing.{arguments-count}
+use Rattle.server.proofs.PlaceLaws.{arguments-count}
 use Rattle.command.proofs.NameLaws.{means-same, means-for, set-count, incrby-count, scan-count, range-count, get-means, del-means, exists-means, mget-means, mset-means, incr-means, decr-means, echo-means, dbsize-means, keys-means, other-means}
 use borrow.Author.Needs.{needs}
 use Rattle.command.proofs.named.Statement.{statement}

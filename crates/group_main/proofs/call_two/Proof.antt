@@ -48,7 +48,7 @@ use denote.Exit.{yes}
 use Rattle.batch.specs.declared.Member.{Member}
 use Rattle.batch.proofs.Member as Mem
 use Rattle.batch.proofs.Member.Laws as Laws
-use Rattle.registry.specs.Calls.{GroupPromise}
+use Rattle.calls.specs.Calls.{GroupPromise}
 use Rattle.registry.proofs.group.group as grp
 use Rattle.registry.proofs.group.group.Symbol as grp-def
 use Rattle.registry.proofs.group.group.Symbol.{name as #registry·group·group}

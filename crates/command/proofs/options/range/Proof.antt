@@ -1,5 +1,5 @@
 -- `command::options::range` meets its contract. One law for each way out. Assumes nothing.
-use Rattle.server.proofs.Queueing.{arguments-count}
+use Rattle.server.proofs.PlaceLaws.{arguments-count}
 use Rattle.command.proofs.OptionLaws.{no-limit, odd-rest, other-option, bad-limit, limit-here}
 use borrow.Author.Needs.{needs}
 use Rattle.command.proofs.options.range.Statement.{statement}

@@ -1,5 +1,5 @@
 -- `command::options::scan_option` meets its contract. One law for each way out. Assumes nothing.
-use Rattle.server.proofs.Queueing.{arguments-count}
+use Rattle.server.proofs.PlaceLaws.{arguments-count}
 use Rattle.command.proofs.OptionLaws.{match-here, neither-here, no-count, count-here}
 use borrow.Author.Needs.{needs}
 use Rattle.command.proofs.options.scan_option.Statement.{statement}

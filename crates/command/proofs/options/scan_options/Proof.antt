@@ -2,7 +2,7 @@
 use Prim.Native.Nat.{_-_}
 use borrow.Author.Needs.{needs}
 use Rattle.server.specs.Places.{argumentsAt}
-use Rattle.server.proofs.Queueing.{arguments-count}
+use Rattle.server.proofs.PlaceLaws.{arguments-count}
 use Rattle.command.proofs.OptionLaws.{Scanning, scanning-none, scanning-match, scanning-count, scanning-wrong, scanning-odd, scanning-all}
 use Rattle.command.proofs.options.scan_options.Statement.{statement}
 use Rattle.command.proofs.options.scan_options.Tie as tie

@@ -1,5 +1,5 @@
 -- `exec::transaction::exec` meets its contract. Assumes nothing.
-use Rattle.server.proofs.Kept.{held-by-tests}
+use Rattle.sessions.proofs.Kept.{held-by-tests}
 use Rattle.exec.proofs.ExecLaws.{exec-failed, exec-watched, exec-ready}
 use borrow.Author.Needs.{needs}
 use Rattle.exec.proofs.transaction.exec.Statement.{statement}

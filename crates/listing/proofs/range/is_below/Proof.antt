@@ -1,5 +1,5 @@
 -- `listing::range::is_below` meets its contract. Assumes nothing.
-use Rattle.server.proofs.Validity.{below-less, below-equal, below-greater}
+use Rattle.server.proofs.OrderLaws.{below-less, below-equal, below-greater}
 use borrow.Author.Needs.{needs}
 use Rattle.listing.proofs.range.is_below.Statement.{statement}
 use Rattle.listing.proofs.range.is_below.Tie as tie

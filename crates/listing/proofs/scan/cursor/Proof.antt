@@ -1,5 +1,6 @@
 -- `listing::scan::cursor` meets its contract. Assumes nothing.
-use Rattle.listing.proofs.Scanning.{cursor-none, cursor-more}
+use native.Mathlib.Omega.{arith}
+use Rattle.listing.proofs.Scanning.{cursor-fits, cursor-none, cursor-more}
 use borrow.Author.Needs.{needs}
 use Rattle.listing.proofs.scan.cursor.Statement.{statement}
 use Rattle.listing.proofs.scan.cursor.Tie as tie
@@ -13,6 +14,9 @@ enum-told c = search needs
 enum-told-2 : tie.Need-enum-told-2
 enum-told-2 c = search needs
 
+add-result : tie.Need-add-result
+add-result c = omega (arith, cursor-fits _ _ _ (c .before .before .before .before .before .args .from) (c .before .before .before .before .before .args .most) (c .before .before .next-live .ensures) (c .enum-told2 .given .1) (c .before .before .before .before .before .pre .1), c .before .before .before .before .before .pre .0)
+
 returns : tie.Need-returns
 returns c = search cursor-none
 
@@ -20,4 +24,4 @@ returns-2 : tie.Need-returns-2
 returns-2 c = search cursor-more
 
 pub cursor-spec : {M : Type 1} → statement M
-cursor-spec = tie.close (tie.spec next-live-requires enum-told enum-told-2 returns returns-2)
+cursor-spec = tie.close (tie.spec next-live-requires enum-told enum-told-2 add-result returns returns-2)

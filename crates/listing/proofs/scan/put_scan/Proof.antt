@@ -1,5 +1,5 @@
 -- `listing::scan::put_scan` meets its contract. Assumes nothing.
-use Rattle.listing.proofs.Scanning.{scan-answer}
+use Rattle.listing.proofs.Scanning.{walk-stop, scan-answer}
 use Rattle.listing.proofs.Matching.{seen-fits}
 use borrow.Author.Needs.{needs}
 use Rattle.listing.proofs.scan.put_scan.Statement.{statement}
@@ -11,11 +11,8 @@ skip-requires c κs = search needs
 count-matches-requires : tie.Need-count-matches-requires
 count-matches-requires c κs = search needs
 
-add-cursor : tie.Need-add-cursor
-add-cursor c = search needs
-
 cursor-requires : tie.Need-cursor-requires
-cursor-requires c κs = search needs
+cursor-requires c κs = (search needs, search walk-stop)
 
 put-head-requires : tie.Need-put-head-requires
 put-head-requires c κs = search needs
@@ -38,7 +35,6 @@ put-scan-spec =
     (tie.spec
     skip-requires
     count-matches-requires
-    add-cursor
     cursor-requires
     put-head-requires
     then-bulk-digits-requires

@@ -57,7 +57,7 @@ use Rattle.batch.proofs.group.settle_all as all-set
 use Rattle.batch.proofs.group.settle_all.Symbol as all-set-def
 use Rattle.batch.proofs.group.settle_all.Symbol.{name as #batch·group·settle-all}
 use Rattle.batch.proofs.group.settle_all.Met as all-set-thm
-use Rattle.registry.specs.Calls.{GroupPromise}
+use Rattle.calls.specs.Calls.{GroupPromise}
 use Rattle.registry.specs.Numbers.{groupNumber}
 use Rattle.registry.proofs.GroupCall.{group-words, group-ready, group-done, group-refused}
 use Rattle.registry.proofs.group.number as num

@@ -1,0 +1,224 @@
+-- Each request of a session is followed by posting: the table, what posting keeps of the session, and the reply's bytes.
+use Prim.Native.Nat.{ℕ, _+_}
+use native.Mathlib.Omega.{arith}
+use mathlib.Core.List.{List, [], _∷_, _++_, map}
+use mathlib.Core.Bool.{Bool, true, false, cond, _||_, false≢true}
+use mathlib.Core.Option.{Option, none, some}
+use mathlib.Core.Path.{_≡_, refl, sym, ap, _∙_, fun-ext, subst}
+use lib.ListN.{length}
+use Rattle.key.specs.Bytes.{Bytes}
+use Rattle.key.specs.Keys.{Key}
+use Rattle.resp.specs.Reply.{Error, NilArray, array, ok, encode}
+use Rattle.memtable.specs.Table.{Write, Table, keysOf, find, lastWrites}
+use Rattle.memtable.specs.Versions.{Store, readAt, moved, table, commit}
+use Rattle.memtable.proofs.TableLaws.{writeAll-lastWrites}
+use Rattle.memtable.proofs.VersionLaws.{ascending-table, read-last, read-unmoved, table-commit, Sound}
+use Rattle.batch.specs.declared.Verdict.{Verdict}
+use Rattle.batch.specs.declared.Verdict.the-variants.{Accepted, Conflict, NoRoom, NoSequence, NotTaken}
+use Rattle.batch.specs.Group.{plain, anyKey, among, verdictAlone}
+use Rattle.batch.proofs.KeyLists.{among-append, among-last}
+use Rattle.server.specs.Names.{Args, Row, rowOf, nameWord, arguments, countRight, arity, Control, MULTI, EXEC, DISCARD, WATCH, UNWATCH, QUIT, other, controlOf}
+use Rattle.server.specs.Command.{Command, Listing, Executed, runs, lists, Effect, executedOf, commandOf, run, runQueue}
+use Rattle.server.specs.Session.{Watching, Session, clear, Result, number, reply, Done, says, returns, committed, direct, addKeys, watchOr, watchFits, watching, outsideMulti, queueFits, queuedReply, marked, enqueue, notQueueable, execAbort, readSequence, watchedKeys, pendingExec, execute, insideMulti, respondBy, respond}
+use Rattle.server.proofs.CommandLaws.{Agree}
+use Rattle.server.proofs.WatchLaws.{among-adds}
+use Rattle.server.proofs.SessionLaws.{ranBy, memberBy, exec-calm, ends, execute-failed, execute-ends}
+use Rattle.calls.specs.Posting.{isReply, Item, listed, exec, Desk, closed, Turn, quietly, onlyIf, turnExec, turnBy, postQueue, post, postAll, covered, AllHold, checksOf}
+use Rattle.calls.specs.Demand3.{itemKeys, writtenIn}
+use Rattle.calls.proofs.MovedLaws.{commit-moves, no-keys, one-item}
+use Rattle.calls.proofs.ReplyLaws.{ok-told, queued-told, error-not-ok, error-not-queued, abort-told, nil-array-told, nil-array-no-array, error-no-array, array-told}
+use Rattle.calls.proofs.CommandLaws.{all-written, all-checked, covered-held, queue-writes, queue-as-posted, queue-checks}
+
+-- what posting keeps of a session: its queue, and the same watched keys, though in another order
+pub record Mirrors (d : Desk) (s : Session) : Type 0 where
+  pub queue : d .queue ≡ s .queue
+  pub watched : (k : Key) → among (d .watched) k ≡ among (watchedKeys (s .watch)) k
+
+pub closed-clear : Mirrors closed clear
+closed-clear = record { queue = refl; watched = λ k. refl }
+
+-- posting follows: what it makes of the answer changes the table as the request does, mirrors the session, and holds
+pub record Follows (before after : Store) (s : Session) (t : Turn) : Type 0 where
+  pub tables : postAll (t .items) (table (before .versions)) ≡ table (after .versions)
+  pub desk : Mirrors (t .desk) s
+  pub holds : AllHold (t .items) (table (before .versions))
+  pub quiet : t .items ≡ [] → after ≡ before
+  pub moves : (k : Key) → among (writtenIn (t .items) (table (before .versions))) k ≡ true → moved (before .last) (after .versions) k ≡ true
+
+-- an item is something
+pub some-item : {x : Item} {xs : List Item} {A : Type 0} → x ∷ xs ≡ [] → A
+some-item e = let z : _≡_ {A = ℕ} 0 1 = cc in absurd (omega arith)
+
+-- a request that commits nothing and posts nothing
+pub still : (st : Store) (s : Session) (d : Desk) → Mirrors d s → Follows st st s (quietly d)
+unfolding postAll
+still st s d m = record { tables = refl; desk = m; holds = tt; quiet = λ e. refl; moves = λ k h. no-keys _ k h }
+
+-- reading the last sequence is reading the table
+read-now : (st : Store) → Sound st → readAt (st .last) (st .versions) ≡ find (table (st .versions))
+read-now st b = fun-ext (read-last (st .last) (st .versions) (b .seqs))
+
+-- by what a session answers; a number is not posted
+abbrev pub FollowedBy : Store → Desk → Control → Option (List Args) → Args → Done → Result → Type 0
+FollowedBy st d c q a done (number n) = Unit {0}
+FollowedBy st d c q a done (reply r) = Follows st (done .store) (done .session) (turnBy c q a (encode r) d)
+
+module _ (st : Store) (s : Session) (d : Desk) (sound : Sound st) (m : Mirrors d s) where
+  -- where the answer is no `+OK`, the desk stays
+  not-ok : (text : Bytes) (s′ : Session) (new : Desk) → Mirrors d s′ → Follows st st s′ (onlyIf (isReply ok (encode (Error text))) d new)
+  not-ok text s′ new g = rw (error-not-ok text) (still st s′ d g)
+
+  is-ok : (s′ : Session) (new : Desk) → Mirrors new s′ → Follows st st s′ (onlyIf (isReply ok (encode ok)) d new)
+  is-ok s′ new g = rw ok-told (still st s′ new g)
+
+  -- OUTSIDE MULTI
+  no-list : {A : Type 0} (l : Listing) (b : Bytes) (k : Key) → among (itemKeys (listed l b) (table (st .versions))) k ≡ true → A
+  unfolding itemKeys anyKey
+  no-list l b k h = absurd (false≢true h)
+
+  direct-follows : (a : Args) (x : Executed) → executedOf a ≡ x → FollowedBy st d other none a (direct x st s) (direct x st s .result)
+  unfolding direct turnBy
+  direct-follows a (lists l) p =
+      rw p (record { tables = unfold postAll post in refl; desk = m; holds = unfold post in (refl, tt); quiet = λ z. some-item z; moves = λ k h. one-item _ _ k h (λ e. no-list l _ k e) })
+  direct-follows a (runs c) p = rw (read-now st sound) (go (verdictAlone st (plain (e .1))))
+    where
+      e : Effect
+      e = run (find (table (st .versions))) c
+
+      go : (v : Verdict) → FollowedBy st d other none a (committed v e st s) (committed v e st s .result)
+      go Accepted =
+          unfold committed in rw p (record { tables = unfold postAll post in sym (table-commit (e .1) st (sound .seqs)); desk = m; holds = (refl, tt); quiet = λ z. some-item z; moves = λ k h. one-item _ _ k h (λ x. unfold itemKeys in commit-moves (e .1) st k x) })
+      go Conflict = unfold committed in tt
+      go NoRoom = unfold committed in tt
+      go NoSequence = unfold committed in tt
+      go NotTaken = unfold committed in tt
+
+  -- the keys of a watch, and those that were added
+  watched-more : (ks : List Key) (w : Option Watching) → ((k : Key) → among (d .watched) k ≡ among (watchedKeys w) k)
+      → (k : Key) → among (d .watched ++ ks) k ≡ among (addKeys ks (watchOr (st .last) w .keys)) k
+  watched-more ks none h k = among-append (d .watched) ks k ∙ ap (λ (b : Bool). b || among ks k) (h k) ∙ sym (among-adds ks [] k)
+  watched-more ks (some w) h k = among-append (d .watched) ks k ∙ ap (λ (b : Bool). b || among ks k) (h k) ∙ sym (among-adds ks (w .keys) k)
+
+  watching-follows : (a : Args) → FollowedBy st d WATCH none a (watching (arguments a) st s) (watching (arguments a) st s .result)
+  unfolding watching turnBy
+  watching-follows a = go (watchFits js)
+    where
+      w : Watching
+      w = watchOr (st .last) (s .watch)
+
+      js : List Key
+      js = addKeys (arguments a) (w .keys)
+
+      after : Done
+      after = says ok st (record { queue = s .queue; failed = s .failed; watch = some (record { snapshot = w .snapshot; keys = js }) })
+
+      go : (b : Bool) → FollowedBy st d WATCH none a (cond b after (returns 5 st s)) (cond b after (returns 5 st s) .result)
+      go true = is-ok _ _ (record { queue = m .queue; watched = watched-more (arguments a) (s .watch) (m .watched) })
+      go false = tt
+
+  outside-follows : (a : Args) (c : Control) (r : Row) → FollowedBy st d c none a (outsideMulti c r a st s) (outsideMulti c r a st s .result)
+  unfolding outsideMulti turnBy
+  outside-follows a MULTI r = is-ok _ _ (record { queue = refl; watched = m .watched })
+  outside-follows a EXEC r = still st s d m
+  outside-follows a DISCARD r = not-ok _ s closed m
+  outside-follows a WATCH r = go (countRight r (length (arguments a)))
+    where
+      go : (b : Bool) → FollowedBy st d WATCH none a (cond b (watching (arguments a) st s) (says (arity r) st s)) (cond b (watching (arguments a) st s) (says (arity r) st s) .result)
+      go true = watching-follows a
+      go false = unfold arity in not-ok _ s _ m
+  outside-follows a UNWATCH r = is-ok _ _ (record { queue = m .queue; watched = λ k. refl })
+  outside-follows a QUIT r = still st clear closed closed-clear
+  outside-follows a other r = direct-follows a (executedOf a) refl
+
+  -- INSIDE MULTI
+  enqueue-follows : (q : List Args) (a : Args) → FollowedBy st d other (some q) a (enqueue q a st s) (enqueue q a st s .result)
+  unfolding enqueue turnBy
+  enqueue-follows q a = go (queueFits (q ++ a ∷ []))
+    where
+      after : Done
+      after = says queuedReply st (record { queue = some (q ++ a ∷ []); failed = s .failed; watch = s .watch })
+
+      go : (b : Bool) → FollowedBy st d other (some q) a (cond b after (returns 4 st (marked s))) (cond b after (returns 4 st (marked s)) .result)
+      go true = rw queued-told (still st _ _ (record { queue = refl; watched = m .watched }))
+      go false = tt
+
+  -- an accepted EXEC
+  queue-key : (watched : List Key) (b : Bytes) (k : Key) (ws : List Write) (t : Table) (cs : List Command) → ws ≡ postQueue t cs → among (itemKeys (exec watched cs b) t) k ≡ true → among (keysOf ws) k ≡ true
+  unfolding itemKeys
+  queue-key watched b k ws t cs e h = rw e h
+
+  exec-follows : (q : List Args) → verdictAlone st (memberBy q st s) ≡ Accepted
+      → Follows st (commit (memberBy q st s .writes) st) clear (turnExec q (encode (array (ranBy q st s .replies))) d)
+  unfolding turnExec ranBy memberBy pendingExec postAll post
+  exec-follows q e =
+      let start = readSequence st (s .watch) in
+      let r = readAt start (st .versions) in
+      let cs = map commandOf q in
+      let t = table (st .versions) in
+      let ws = runQueue r cs .writes in
+      let cov = covered (d .watched) ws cs in
+      let up = ascending-table (st .versions) in
+      let checks : runQueue r cs .checked ≡ checksOf cs = queue-checks cs r in
+      let h : Agree cov r (find t) =
+      λ k c. read-unmoved start (st .last) (st .versions) (sound .seqs) k
+      (exec-calm q st s e k (rw checks (covered-held (d .watched) (watchedKeys (s .watch)) ws cs (m .watched) k c)))
+      ∙ read-last (st .last) (st .versions) (sound .seqs) k in
+      let checked = all-checked (d .watched) ws cs in
+      let same : ws ≡ postQueue t cs = queue-writes cov cs r t up h checked in
+      rw (array-told (runQueue r cs .replies)) (record {
+        tables = rw (← same) (sym (writeAll-lastWrites ws t up)) ∙ sym (table-commit (lastWrites [] ws) st (sound .seqs));
+        desk = closed-clear;
+        holds = ((runQueue r cs .replies, refl, rw (← same) (queue-as-posted cov cs r t up h (all-written (d .watched) ws cs) checked)), tt);
+        quiet = λ z. some-item z;
+        moves = λ k h. one-item _ t k h (λ x. commit-moves (lastWrites [] ws) st k (among-last ws [] k (rw (queue-key _ _ k ws t cs same x))));
+      })
+
+  execute-follows : (q : List Args) (a : Args) → FollowedBy st d EXEC (some q) a (execute q st s) (execute q st s .result)
+  unfolding turnBy
+  execute-follows q a = go (s .failed) refl
+    where
+      nil : Follows st st clear (turnExec q (encode NilArray) d)
+      nil = unfold turnExec in rw (nil-array-no-array, nil-array-told) (still st clear closed closed-clear)
+
+      abort : Follows st st clear (turnExec q (encode execAbort) d)
+      abort = unfold turnExec in rw (error-no-array _, abort-told) (last (isReply NilArray (encode execAbort)))
+        where
+          last : (b : Bool) → Follows st st clear (onlyIf (b || true) d closed)
+          last true = still st clear closed closed-clear
+          last false = still st clear closed closed-clear
+
+      by : (v : Verdict) → verdictAlone st (memberBy q st s) ≡ v
+          → FollowedBy st d EXEC (some q) a (ends v (ranBy q st s) (memberBy q st s) st s) (ends v (ranBy q st s) (memberBy q st s) st s .result)
+      by Accepted e = unfold ends in exec-follows q e
+      by Conflict e = unfold ends in nil
+      by NoRoom e = unfold ends in tt
+      by NoSequence e = unfold ends in tt
+      by NotTaken e = unfold ends in nil
+
+      go : (f : Bool) → s .failed ≡ f → FollowedBy st d EXEC (some q) a (execute q st s) (execute q st s .result)
+      go true p = rw (execute-failed q st s p) abort
+      go false p = rw (execute-ends q st s p) (by _ refl)
+
+  inside-follows : (a : Args) (q : List Args) (c : Control) (r : Row) → d .queue ≡ some q → FollowedBy st d c (some q) a (insideMulti c q r a st s) (insideMulti c q r a st s .result)
+  unfolding insideMulti turnBy
+  inside-follows a q EXEC r e = execute-follows q a
+  inside-follows a q DISCARD r e = is-ok clear closed closed-clear
+  inside-follows a q MULTI r e = not-ok _ s _ m
+  inside-follows a q WATCH r e = not-ok _ s _ m
+  inside-follows a q QUIT r e = still st clear closed closed-clear
+  inside-follows a q UNWATCH r e = unfold notQueueable in not-ok _ (marked s) _ (record { queue = m .queue; watched = m .watched })
+  inside-follows a q other r e = go (r .queueable)
+    where
+      go : (b : Bool) → FollowedBy st d other (some q) a (cond b (enqueue q a st s) (says (notQueueable (nameWord a)) st (marked s))) (cond b (enqueue q a st s) (says (notQueueable (nameWord a)) st (marked s)) .result)
+      go true = enqueue-follows q a
+      go false = unfold notQueueable in rw (error-not-queued _) (still st (marked s) d (record { queue = m .queue; watched = m .watched }))
+
+  pub respond-follows : (a : Args) → FollowedBy st d (controlOf (rowOf (nameWord a) .name)) (d .queue) a (respond a st s) (respond a st s .result)
+  unfolding respond respondBy
+  respond-follows a =
+      subst (λ (q : Option (List Args)). FollowedBy st d (controlOf (rowOf (nameWord a) .name)) q a (respond a st s) (respond a st s .result)) (sym (m .queue)) (go (s .queue) refl)
+    where
+      go : (q : Option (List Args)) → s .queue ≡ q
+          → FollowedBy st d (controlOf (rowOf (nameWord a) .name)) q a (respondBy q (rowOf (nameWord a)) a st s) (respondBy q (rowOf (nameWord a)) a st s .result)
+      go none e = outside-follows a (controlOf (rowOf (nameWord a) .name)) (rowOf (nameWord a))
+      go (some q) e = inside-follows a q (controlOf (rowOf (nameWord a) .name)) (rowOf (nameWord a)) (m .queue ∙ e)

@@ -1,0 +1,22 @@
+-- The laws of this crate.
+pub mod CallLaws
+pub mod CommandLaws
+pub mod CounterLaws
+pub mod Demand3Proved
+pub mod FollowLaws
+pub mod GroupLaws
+pub mod IsolationClaim
+pub mod IsolationLaws
+pub mod LentLaws
+pub mod MadeLaws
+pub mod MovedLaws
+pub mod OpenLaws
+pub mod Posting
+pub mod QuietLaws
+pub mod Refusals
+pub mod ReplyLaws
+pub mod ServeLaws
+pub mod StateClaim
+pub mod StateLaws
+pub mod WatchLaws
+pub mod Worked

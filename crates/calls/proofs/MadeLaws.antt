@@ -1,0 +1,168 @@
+-- Demand 3 is proved of the calls made through the published functions: what their contracts tell is what the definitions give. Assumes nothing.
+use Prim.Native.Nat.{ℕ, zero, suc, _+_, _-_, _*_, _≤_, min}
+use native.Mathlib.Omega.{arith}
+use mathlib.Core.Path.{_≡_, refl, sym, ap, _∙_, subst}
+use mathlib.Core.Bool.{Bool, true, false, cond}
+use mathlib.Core.List.{List, [], _∷_, _++_, map}
+use lib.Dec.{ltb}
+use lib.ListN.{length, take, drop, replicate, length-append, length-take, length-replicate}
+use lib.Seq.{take-at}
+use Rattle.key.specs.Bytes.{Bytes, over-front}
+use Rattle.key.specs.Keys.{Key}
+use Rattle.memtable.specs.Versions.{Store}
+use Rattle.memtable.specs.Layout.{buffersHold, validStore, storeIn, emptyStore}
+use Rattle.batch.specs.declared.Member.{Member}
+use Rattle.batch.specs.declared.Verdict.{Verdict}
+use Rattle.batch.specs.declared.Verdict.the-variants.{NotTaken}
+use Rattle.batch.specs.Group.{Pending, Finished, group, taken, memberSize, judgeAll, verdictByte}
+use Rattle.batch.specs.Members.{groupFits, pendingOf}
+use Rattle.batch.proofs.GroupLaws.{verdicts-long}
+use Rattle.server.specs.declared.Answer.{Answer}
+use Rattle.server.specs.Finish.{Served, replyBuffer}
+use Rattle.calls.specs.Serve.{Outcome, refused, answered, serve}
+use Rattle.calls.specs.Calls.{Lent, lentOf, valid, storeOf, sessionOf, leaveServed, refuses, Called, StoreCalled, withStore, refusesStore, givesStore, judged, open-call, request-call, group-call, verdictBuffer, OpenPromise, RequestPromise, GroupPromise, Call, request, grouped, call, outcomes, final}
+use Rattle.calls.specs.Demand3.{Opened, Demand3Holds, without, toOthers, SameBut, Unaltered, PostsNothing, desksAfter, NoNine}
+use Rattle.calls.specs.Posting.{closedDesks}
+use Rattle.calls.specs.Made.{requestSeen, groupSeen, Made, unmade, byRequest, byGroup, Holds, MadeClaim, OpensClaim, SeenAlike, MadeIsolation, MadeHolds}
+use Rattle.calls.proofs.Demand3Proved.{demand-3}
+use Rattle.calls.proofs.OpenLaws.{opens}
+
+-- THE OUTCOME THAT THE CALLER SEES is the definition's. A reply in front of its buffer
+front : (room : ℕ) (s : Bytes) → take (length s) (replyBuffer room s) ≡ s
+unfolding replyBuffer
+front room s = take-at s (replicate (room - length s) 0) (length s) refl
+
+-- a request writes no verdict
+no-verdicts : (i : ℕ) (input : Bytes) (places room : ℕ) (l : Lent) → request-call i input places room l .outcome .verdicts ≡ []
+unfolding request-call
+no-verdicts i input places room l = go (ltb i 16) (valid l)
+  where
+    d : Served
+    d = serve places room input (storeOf l) (sessionOf i l)
+
+    by : Bool → Bool → Called
+    by a b = elim a [ false ↦ refuses 1 l | true ↦ elim b [ false ↦ refuses 9 l | true ↦ record { outcome = answered d; lent = leaveServed i d l } ] ]
+
+    go : (a b : Bool) → by a b .outcome .verdicts ≡ []
+    go false b = refl
+    go true false = refl
+    go true true = refl
+
+request-seen : {i : ℕ} {input : Bytes} {places : ℕ} {buffer : Bytes} {l : Lent} {r : Answer} {buffer′ : Bytes} {l₁ : Lent}
+    → RequestPromise i input places buffer l r buffer′ l₁ → requestSeen r buffer′ ≡ request-call i input places (length buffer) l .outcome
+request-seen {i} {input} {places} {buffer} {l} {r} {buffer′} p =
+    let o : Outcome = request-call i input places (length buffer) l .outcome in
+    let e : take (r .reply) buffer′ ≡ o .reply = (λ z. take (p .answer z .reply) (p .reply z)) ∙ front (length buffer) (o .reply) in
+    λ z. record { number = p .answer z .number; used = p .answer z .used; reply = e z; verdicts = sym (no-verdicts i input places (length buffer) l) z }
+
+-- a verdict for each member
+all-verdicts : (ms : List Pending) (st : Store) → length (group ms st .verdicts) ≡ length ms
+unfolding group
+all-verdicts ms st =
+    let n = taken (map memberSize ms) in
+    let a : length (judgeAll [] (take n ms) st .verdicts) ≡ min n (length ms) = verdicts-long [] (take n ms) st ∙ length-take n ms in
+    let b : length (replicate (length ms - n) NotTaken) ≡ length ms - n = length-replicate (length ms - n) NotTaken in
+    let c = length-append (judgeAll [] (take n ms) st .verdicts) (replicate (length ms - n) NotTaken) in
+    omega (arith, a, b, c)
+
+length-map : {A B : Type 0} (f : A → B) (xs : List A) → length (map f xs) ≡ length xs
+length-map f [] = refl
+length-map f (x ∷ xs) = ap suc (length-map f xs)
+
+over-seen : (s v : Bytes) (n : ℕ) → length s ≡ n → take n (over-front s v) ≡ s
+unfolding over-front
+over-seen s v n e = take-at s (drop (length s) v) n e
+
+group-outcome : (ms : List Member) (parts : List ℕ) (d v : Bytes) (w : List ℕ) (b : Bytes)
+    → groupSeen (group-call ms parts d v w b .outcome .number) ms (verdictBuffer (group-call ms parts d v w b .outcome) v) ≡ group-call ms parts d v w b .outcome
+unfolding group-call verdictBuffer
+group-outcome ms parts d v w b = go (validStore w b) (groupFits parts d ms v)
+  where
+    g : Finished
+    g = group (map (pendingOf parts d) ms) (storeIn w b)
+
+    long : length (map verdictByte (g .verdicts)) ≡ length ms
+    long = length-map verdictByte (g .verdicts) ∙ all-verdicts (map (pendingOf parts d) ms) (storeIn w b) ∙ length-map (pendingOf parts d) ms
+
+    by : Bool → Bool → StoreCalled
+    by x y = elim x [ false ↦ refusesStore 9 w b | true ↦ elim y [ false ↦ refusesStore 8 w b | true ↦ givesStore (judged g) (g .store) w b ] ]
+
+    go : (x y : Bool) → groupSeen (by x y .outcome .number) ms (over-front (by x y .outcome .verdicts) v) ≡ by x y .outcome
+    go false y = refl
+    go true false = refl
+    go true true = ap (λ (s : Bytes). record { number = 0; used = 0; reply = []; verdicts = s }) (over-seen (map verdictByte (g .verdicts)) v (length ms) long)
+
+group-seen : {ms : List Member} {parts : List ℕ} {d v : Bytes} {w : List ℕ} {b : Bytes} {n : ℕ} {v′ : Bytes} {w′ : List ℕ} {b′ : Bytes}
+    → GroupPromise ms parts d v w b n v′ w′ b′ → groupSeen n ms v′ ≡ group-call ms parts d v w b .outcome
+group-seen {ms} {parts} {d} {v} {w} {b} p = (λ z. groupSeen (p .number z) ms (p .verdicts z)) ∙ group-outcome ms parts d v w b
+
+-- THE CALLS MADE are the definition's list of calls
+record AsDefined (l : Lent) (cs : List Call) (os : List Outcome) (l′ : Lent) : Type 0 where
+  seen : os ≡ outcomes cs l
+  left : l′ ≡ final cs l
+
+as-defined : {l l′ : Lent} (cs : List Call) (os : List Outcome) → Made l cs os l′ → AsDefined l cs os l′
+unfolding outcomes final call
+as-defined [] os unmade = record { seen = refl; left = refl }
+as-defined {l} {l′} (c ∷ cs) os (byRequest {l₁ = l₁} {os = os′} p m) =
+    let k = as-defined cs os′ m in
+    record {
+      seen = λ z. request-seen p z ∷ (k .seen ∙ ap (outcomes cs) (p .lent)) z;
+      left = k .left ∙ ap (final cs) (p .lent);
+    }
+as-defined {l} {l′} (c ∷ cs) os (byGroup {ms = ms} {parts = parts} {d = d} {v = v} {w′ = w′} {b′ = b′} {os = os′} p m) =
+    let k = as-defined cs os′ m in
+    let g : StoreCalled = group-call ms parts d v (l .words) (l .bytes) in
+    let e : withStore w′ b′ l ≡ withStore (g .words) (g .bytes) l = λ z. withStore (p .words z) (p .bytes z) l in
+    record {
+      seen = λ z. group-seen p z ∷ (k .seen ∙ ap (outcomes cs) e) z;
+      left = k .left ∙ ap (final cs) e;
+    }
+
+-- DEMAND 3 of them
+made-claim : MadeClaim
+made-claim l l′ cs os o m =
+    let k = as-defined cs os m in
+    let d = demand-3 .claim cs l o in
+    let v = demand-3 .validity cs l o in
+    let holds : Holds cs (outcomes cs l) l (final cs l) = record {
+      tables = d .tables;
+      replies = d .replies;
+      counters = demand-3 .counters cs l o;
+      sums = demand-3 .counterReplies cs l o;
+      watches = demand-3 .postedWatches cs l o;
+      moved = demand-3 .watches cs l o;
+      fit = v .0;
+      no-nine = v .1;
+    } in
+    coe 1 0 (z. Holds cs (k .seen z) l (k .left z)) holds
+
+-- the opening call
+holds-told : (last versions size : ℕ) (w : List ℕ) (b : Bytes) → 0 ≡ open-call last versions size w b .outcome .number → buffersHold w b versions size ≡ true
+unfolding open-call
+holds-told last versions size w b e = go (buffersHold w b versions size) e
+  where
+    go : (x : Bool) → 0 ≡ cond {A = StoreCalled} x (givesStore (refused 0) (emptyStore last versions size) w b) (refusesStore 9 w b) .outcome .number → x ≡ true
+    go true e = refl
+    go false e = absurd (omega (arith, e))
+
+made-opens : OpensClaim
+made-opens last versions size w b w′ b′ n m h k p =
+    coe 1 0 (z. Opened (lentOf (p .words z) (p .bytes z) (replicate n 0) (replicate m 0))) (opens n m (omega (arith, h)) (omega (arith, k)) last versions size w b (holds-told last versions size w b (p .number)))
+
+-- the sentence on other sessions
+made-isolation : MadeIsolation
+made-isolation l l₁ l₂ m m₂ before cs os₁ os₂ os′ i o a c fit same d posts =
+    let k = as-defined before os₁ a in
+    let n = as-defined cs os₂ c in
+    let r = as-defined (without i cs) os′ d in
+    let u : Unaltered i cs (final before l) m =
+    demand-3 .isolation before cs l m i o fit (coe 0 1 (z. SameBut i (k .left z) m) same) (coe 0 1 (z. PostsNothing i cs (k .left z) (desksAfter before l closedDesks)) posts) in
+    let v : Unaltered i cs l₁ m = coe 1 0 (z. Unaltered i cs (k .left z) m) u in
+    record {
+      answers = ap (toOthers i cs) (n .seen) ∙ v .answers ∙ sym (r .seen);
+      left = coe 1 0 (z. SameBut i (n .left z) (r .left z)) (v .left);
+    }
+
+pub made : MadeHolds
+made = record { opens = made-opens; claim = made-claim; isolation = made-isolation }

@@ -1,0 +1,105 @@
+-- Opening: an opened store beside zero session buffers is what the claims start from, whatever its last sequence and capacities.
+use Prim.Native.Nat.{ℕ, zero, suc, _+_, _-_, _*_, _≤_, _<_}
+use native.Mathlib.Omega.{arith}
+use mathlib.Core.List.{List, _∷_}
+use mathlib.Core.Bool.{true}
+use mathlib.Core.Path.{_≡_, refl, ap, _∙_}
+use lib.Dec.{leb}
+use lib.ListN.{length, take, drop, replicate, length-replicate}
+use borrow.Author.Tests.{leb-true}
+use Rattle.key.specs.Bytes.{Bytes, _and_, part, total}
+use Rattle.key.proofs.Bytes.{and-left, and-right, and-both}
+use Rattle.memtable.specs.Versions.{versionsSize}
+use Rattle.memtable.specs.Layout.{storeIn, buffersHold, validStore, leaveWords, leaveBytes, emptyStore}
+use Rattle.memtable.proofs.VersionLaws.{Sound}
+use Rattle.memtable.proofs.LayoutLaws.{store-back, leave-valid}
+use Rattle.server.specs.Session.{clear}
+use Rattle.server.specs.Sessions.{splitBy, keysIn, queueIn, watchFrom, sessionFrom, allQueueable, allPositive, watchOk, queueOk, sessionOk, wordsOfSession, bytesOfSession, sessionAt}
+use Rattle.server.proofs.LayoutLaws.{Sixteen, sixteen-valid}
+use Rattle.calls.specs.Serve.{refused}
+use Rattle.calls.specs.Calls.{Lent, valid, storeOf, StoreCalled, givesStore, open-call}
+use Rattle.calls.specs.Demand3.{Opened}
+
+abbrev pub zeros : ℕ → List ℕ
+zeros n = replicate n 0
+
+-- parts of zeros
+drop-zeros : (m n : ℕ) → drop m (zeros n) ≡ zeros (n - m)
+drop-zeros zero n = let e : n ≡ n - 0 = omega arith in ap zeros e
+drop-zeros (suc m) zero = let e : 0 ≡ 0 - suc m = omega arith in ap zeros e
+drop-zeros (suc m) (suc n) = let e : n - m ≡ suc n - suc m = omega arith in drop-zeros m n ∙ ap zeros e
+
+take-zeros : (m n : ℕ) → m ≤ n → take m (zeros n) ≡ zeros m
+take-zeros zero n h = refl
+take-zeros (suc m) zero h = absurd (omega arith)
+take-zeros (suc m) (suc n) h = ap {B = List ℕ} (λ l. 0 ∷ l) (take-zeros m n (omega arith))
+
+part-zeros : (start size n : ℕ) → start + size ≤ n → part start size (zeros n) ≡ zeros size
+part-zeros start size n h = ap (take size) (drop-zeros start n) ∙ take-zeros size (n - start) (omega arith)
+
+-- words that begin with five zeros are a clear session
+zero-clear : (w : List ℕ) (b : Bytes) → sessionFrom (0 ∷ 0 ∷ 0 ∷ 0 ∷ 0 ∷ w) b ≡ clear
+unfolding sessionFrom watchFrom
+zero-clear w b = refl
+
+zero-ok : (last : ℕ) (w : List ℕ) (b : Bytes) → sessionOk last (0 ∷ 0 ∷ 0 ∷ 0 ∷ 0 ∷ w) b ≡ true
+unfolding sessionOk watchOk queueOk keysIn queueIn splitBy total allPositive allQueueable _and_
+zero-ok last w b = refl
+
+module _ (n m : ℕ) (words : 9808 ≤ n) (bytes : 163840 ≤ m) where
+  own-words : (i : ℕ) → i < 16 → wordsOfSession i (zeros n) ≡ 0 ∷ 0 ∷ 0 ∷ 0 ∷ 0 ∷ zeros 608
+  unfolding wordsOfSession
+  own-words i h = part-zeros (i * 613) 613 n (omega arith)
+
+  zeros-clear : (i : ℕ) → i < 16 → sessionAt i (zeros n) (zeros m) ≡ clear
+  unfolding sessionAt
+  zeros-clear i h = ap (λ (w : List ℕ). sessionFrom w (bytesOfSession i (zeros m))) (own-words i h) ∙ zero-clear _ _
+
+  zeros-sixteen : (last : ℕ) → Sixteen last (zeros n) (zeros m)
+  zeros-sixteen last = record {
+    words = rw (length-replicate {A = ℕ} n 0) words;
+    bytes = rw (length-replicate {A = ℕ} m 0) bytes;
+    each = λ i h. ap (λ (w : List ℕ). sessionOk last w (bytesOfSession i (zeros m))) (own-words i h) ∙ zero-ok last _ _;
+  }
+
+  -- what the opening call leaves, beside zeros
+  abbrev openedLent : ℕ → ℕ → ℕ → List ℕ → Bytes → Lent
+  openedLent last versions size w b = record {
+    words = open-call last versions size w b .words;
+    bytes = open-call last versions size w b .bytes;
+    sessionWords = zeros n;
+    sessionBytes = zeros m;
+  }
+
+  empty-sound : (last versions size : ℕ) → Sound (emptyStore last versions size)
+  unfolding emptyStore versionsSize
+  empty-sound last versions size = record { seqs = tt; order = refl; counted = omega arith; sized = omega arith }
+
+  empty-valid : (last versions size : ℕ) (w : List ℕ) (b : Bytes) → buffersHold w b versions size ≡ true
+      → validStore (leaveWords (emptyStore last versions size) w) (leaveBytes (emptyStore last versions size) b) ≡ true
+  unfolding buffersHold emptyStore
+  empty-valid last versions size w b e =
+      leave-valid (emptyStore last versions size) w b (empty-sound last versions size)
+      (leb-true (5 + 4 * versions) (length w) (and-left _ _ e))
+      (leb-true size (length b) (and-right (leb (5 + 4 * versions) (length w)) _ e))
+
+  gives : (last versions size : ℕ) (w : List ℕ) (b : Bytes) → buffersHold w b versions size ≡ true
+      → open-call last versions size w b ≡ givesStore (refused 0) (emptyStore last versions size) w b
+  unfolding open-call
+  gives last versions size w b e = rw e
+
+  pub opened-store : (last versions size : ℕ) (w : List ℕ) (b : Bytes) → buffersHold w b versions size ≡ true → storeOf (openedLent last versions size w b) ≡ emptyStore last versions size
+  opened-store last versions size w b e =
+      ap (λ (x : StoreCalled). storeIn (x .words) (x .bytes)) (gives last versions size w b e) ∙ store-back (emptyStore last versions size) w b
+
+  pub opens : (last versions size : ℕ) (w : List ℕ) (b : Bytes) → buffersHold w b versions size ≡ true → Opened (openedLent last versions size w b)
+  opens last versions size w b e =
+      let st = emptyStore last versions size in
+      record {
+        fit = rw (gives last versions size w b e) (unfold valid in and-both _ _ (empty-valid last versions size w b e) (rw (store-back st w b) (sixteen-valid _ _ _ (zeros-sixteen (st .last)))));
+        last = last;
+        versions = versions;
+        size = size;
+        store = opened-store last versions size w b e;
+        sessions = zeros-clear;
+      }

@@ -1,0 +1,333 @@
+-- Demand 3: one claim about any list of calls, from an opened store and clear sessions.
+use Prim.Native.Nat.{ℕ, _<_}
+use mathlib.Core.List.{List, [], _∷_, _++_, map}
+use mathlib.Core.Bool.{Bool, true, false, cond, _&&_, _||_}
+use mathlib.Core.Option.{Option, none, some}
+use mathlib.Core.Path.{_≡_}
+use lib.Dec.{eqb}
+use lib.ListN.{length, getD}
+use lib.IntN.{ℤ, pos, _+ℤ_}
+use Rattle.key.specs.Bytes.{Bytes}
+use Rattle.key.specs.Keys.{Key, sameKey}
+use Rattle.number.specs.Decimal.{decimal}
+use Rattle.resp.specs.Request.{readRequest}
+use Rattle.resp.specs.Reply.{Reply, Simple, Error, Integer, BulkString, Nil, NilArray, Array, array, encode}
+use Rattle.memtable.specs.Table.{Value, Entry, Table, keysOf, find, writeAll}
+use Rattle.memtable.specs.Versions.{table, moved}
+use Rattle.memtable.specs.Layout.{emptyStore}
+use Rattle.batch.specs.Group.{among}
+use Rattle.server.specs.Names.{Args, Control, MULTI, EXEC, DISCARD, WATCH, UNWATCH, QUIT, other, controlOf, rowOf, nameWord}
+use Rattle.server.specs.Command.{Command, GET, SET, DEL, EXISTS, MGET, MSET, COUNT, FIXED, run}
+use Rattle.server.specs.Session.{clear}
+use Rattle.calls.specs.Serve.{Outcome}
+use Rattle.calls.specs.Calls.{Lent, valid, storeOf, sessionOf, Call, request, grouped, call, outcomes, final, request-call}
+use Rattle.calls.specs.Posting.{Asked, nothing, broken, asks, askedBy, isArray, Item, alone, listed, exec, member, Desk, closed, Entered, enter, history, closedDesks, postQueue, post, postAll, AllHold}
+
+-- an empty store just opened, and clear sessions, in valid lent state
+pub record Opened (l : Lent) : Type 0 where
+  pub fit : valid l ≡ true
+  pub last : ℕ
+  pub versions : ℕ
+  pub size : ℕ
+  pub store : storeOf l ≡ emptyStore last versions size
+  pub sessions : (i : ℕ) → i < 16 → sessionOf i l ≡ clear
+
+-- the items of posting's history, from the calls and their outcomes
+abbrev pub itemsOf : List Call → Lent → List Item
+itemsOf cs l = history cs (outcomes cs l) closedDesks
+
+-- The table after the list, and the reply to each command carried out in it, are what posting gives.
+pub record Demand3 (cs : List Call) (l : Lent) : Type 0 where
+  pub tables : table (storeOf (final cs l) .versions) ≡ postAll (itemsOf cs l) []
+  pub replies : AllHold (itemsOf cs l) []
+
+-- for any list of calls
+abbrev pub Claim : Type 0
+Claim = (cs : List Call) (l : Lent) → Opened l → Demand3 cs l
+
+-- Posting is fed a call's number, reply and verdicts alone: not the bytes used.
+abbrev pub FedClaim : Type 0
+FedClaim =
+    (c : Call) (o p : Outcome) (ds : List Desk) → o .number ≡ p .number → o .reply ≡ p .reply → o .verdicts ≡ p .verdicts →
+    enter c o ds ≡ enter c p ds
+
+-- THE SUM OF A COUNTER. The increments of a key that got an integer reply; `none` while there is none. (By `replies` above, a
+-- counter command's reply is the one that posting gives.)
+abbrev pub isInteger : Reply → Bool
+isInteger (Simple s) = false
+isInteger (Error s) = false
+isInteger (Integer n) = true
+isInteger (BulkString s) = false
+isInteger Nil = false
+isInteger NilArray = false
+isInteger (Array rs) = false
+
+-- no increment yet is 0
+abbrev pub orZero : Option ℤ → ℤ
+orZero none = pos 0
+orZero (some n) = n
+
+-- the sum after one command and its reply
+unfoldable pub increment : Key → Command → Reply → Option ℤ → Option ℤ
+increment k (GET j) p n = n
+increment k (SET j v) p n = n
+increment k (DEL ks) p n = n
+increment k (EXISTS ks) p n = n
+increment k (MGET ks) p n = n
+increment k (MSET es) p n = n
+increment k (COUNT j by) p n = cond (sameKey j k && isInteger p) (some (orZero n +ℤ by)) n
+increment k (FIXED r) p n = n
+
+-- the sum after commands posted one after another
+unfoldable pub sumQueue : Key → List Command → Table → Option ℤ → Option ℤ
+sumQueue k [] t n = n
+sumQueue k (c ∷ cs) t n = let e = run (find t) c in sumQueue k cs (writeAll (e .1) t) (increment k c (e .0) n)
+
+-- the sum over a history
+unfoldable pub sum : Key → List Item → Table → Option ℤ → Option ℤ
+sum k [] t n = n
+sum k (alone c b ∷ xs) t n = sum k xs (post (alone c b) t) (sumQueue k (c ∷ []) t n)
+sum k (listed l b ∷ xs) t n = sum k xs t n
+sum k (exec watched q b ∷ xs) t n = sum k xs (post (exec watched q b) t) (sumQueue k q t n)
+sum k (member ws ∷ xs) t n = sum k xs (post (member ws) t) n
+
+-- the keys that a command other than a counter writes
+unfoldable pub setKeys : Command → List Key
+setKeys (GET k) = []
+setKeys (SET k v) = k ∷ []
+setKeys (DEL ks) = ks
+setKeys (EXISTS ks) = []
+setKeys (MGET ks) = []
+setKeys (MSET es) = map (λ (e : Entry Value). e .0) es
+setKeys (COUNT k by) = []
+setKeys (FIXED r) = []
+
+-- no command of a queue but a counter writes the key
+abbrev pub NotSet : Key → List Command → Type 0
+NotSet k [] = Unit {0}
+NotSet k (c ∷ cs) = (among (setKeys c) k ≡ false) × NotSet k cs
+
+-- only counter commands write the key
+abbrev pub OnlyCounted : Key → List Item → Type 0
+OnlyCounted k [] = Unit {0}
+OnlyCounted k (alone c b ∷ xs) = (among (setKeys c) k ≡ false) × OnlyCounted k xs
+OnlyCounted k (listed l b ∷ xs) = OnlyCounted k xs
+OnlyCounted k (exec watched q b ∷ xs) = NotSet k q × OnlyCounted k xs
+OnlyCounted k (member ws ∷ xs) = (among (keysOf ws) k ≡ false) × OnlyCounted k xs
+
+-- what the key then holds: the sum's text; with no integer reply the key is absent
+abbrev pub textOf : Option ℤ → Option Value
+textOf none = none
+textOf (some n) = some (decimal n)
+
+-- a key that only counter commands write holds the sum of the increments that got an integer reply
+abbrev pub CounterClaim : Type 0
+CounterClaim =
+    (cs : List Call) (l : Lent) → Opened l → (k : Key) → OnlyCounted k (itemsOf cs l) →
+    find (table (storeOf (final cs l) .versions)) k ≡ textOf (sum k (itemsOf cs l) [] none)
+
+-- the sum after commands and their replies
+unfoldable pub increments : Key → List Command → List Reply → Option ℤ → Option ℤ
+increments k [] ps n = n
+increments k (c ∷ cs) [] n = n
+increments k (c ∷ cs) (p ∷ ps) n = increments k cs ps (increment k c p n)
+
+-- `m` is the sum after a history by the bytes of its replies, an EXEC's one for each command
+abbrev pub SumOf : Key → List Item → Option ℤ → Option ℤ → Type 0
+SumOf k [] n m = m ≡ n
+SumOf k (alone c b ∷ xs) n m = (p : Reply) × (b ≡ encode p) × SumOf k xs (increment k c p n) m
+SumOf k (listed l b ∷ xs) n m = SumOf k xs n m
+SumOf k (exec watched q b ∷ xs) n m =
+    (ps : List Reply) × (b ≡ encode (array ps)) × (length ps ≡ length q) × SumOf k xs (increments k q ps n) m
+SumOf k (member ws ∷ xs) n m = SumOf k xs n m
+
+-- the sum is that of the replies which the calls gave
+abbrev pub CounterReplies : Type 0
+CounterReplies = (cs : List Call) (l : Lent) → Opened l → (k : Key) → SumOf k (itemsOf cs l) none (sum k (itemsOf cs l) [] none)
+
+-- NO EXEC IS ACCEPTED WITH A KEY MOVED SINCE ITS WATCH.
+abbrev pub isExec : Control → Bool
+isExec MULTI = false
+isExec EXEC = true
+isExec DISCARD = false
+isExec WATCH = false
+isExec UNWATCH = false
+isExec QUIT = false
+isExec other = false
+
+-- the request is an EXEC
+abbrev pub asksExec : Asked → Bool
+asksExec nothing = false
+asksExec broken = false
+asksExec (asks a) = isExec (controlOf (rowOf (nameWord a) .name))
+
+-- an EXEC of session i that was answered by an array
+abbrev pub Accepts : ℕ → Call → Outcome → Type 0
+Accepts i (request j s places room) o = (j ≡ i) × (o .number ≡ 0) × (asksExec (askedBy s (readRequest places s)) ≡ true) × (isArray (o .reply) ≡ true)
+Accepts i (grouped ms parts d verdicts) o = ⊥
+
+-- k is stale for session i: watched, and with a version that came since. `ds` are the desks before the call
+abbrev pub staleAfter : ℕ → Key → Call → Lent → List Desk → Bool → Bool
+staleAfter i k c l ds stale =
+    among (getD (enter c (call c l .outcome) ds .desks) i closed .watched) k
+    && (stale || moved (storeOf l .last) (storeOf (call c l .lent) .versions) k)
+
+-- no EXEC of session i is accepted while k is stale
+abbrev pub NoStaleExec : ℕ → Key → List Call → Lent → List Desk → Bool → Type 0
+NoStaleExec i k [] l ds stale = Unit {0}
+NoStaleExec i k (c ∷ cs) l ds stale =
+    (stale ≡ true → Accepts i c (call c l .outcome) → ⊥)
+    × NoStaleExec i k cs (call c l .lent) (enter c (call c l .outcome) ds .desks) (staleAfter i k c l ds stale)
+
+-- for any list of calls, session and key
+abbrev pub WatchClaim : Type 0
+WatchClaim = (cs : List Call) (l : Lent) → Opened l → (i : ℕ) (k : Key) → NoStaleExec i k cs l closedDesks false
+
+-- The same by posting alone, without the store. The keys that an item writes on posting's table
+unfoldable pub itemKeys : Item → Table → List Key
+itemKeys (alone c b) t = keysOf (run (find t) c .1)
+itemKeys (listed l b) t = []
+itemKeys (exec watched q b) t = keysOf (postQueue t q)
+itemKeys (member ws) t = keysOf ws
+
+-- the keys that a history writes
+unfoldable pub writtenIn : List Item → Table → List Key
+writtenIn [] t = []
+writtenIn (x ∷ xs) t = itemKeys x t ++ writtenIn xs (post x t)
+
+-- k is stale for session i: watched, and written by a call since. `e` is what posting makes of the call
+abbrev pub staleIn : ℕ → Key → Entered → Table → Bool → Bool
+staleIn i k e t stale = among (getD (e .desks) i closed .watched) k && (stale || among (writtenIn (e .items) t) k)
+
+-- no EXEC of session i is accepted while k is stale
+abbrev pub NoStalePosted : ℕ → Key → List Call → List Outcome → List Desk → Table → Bool → Type 0
+NoStalePosted i k [] os ds t stale = Unit {0}
+NoStalePosted i k (c ∷ cs) [] ds t stale = Unit {0}
+NoStalePosted i k (c ∷ cs) (o ∷ os) ds t stale =
+    (stale ≡ true → Accepts i c o → ⊥)
+    × NoStalePosted i k cs os (enter c o ds .desks) (postAll (enter c o ds .items) t) (staleIn i k (enter c o ds) t stale)
+
+-- for any list of calls, session and key
+abbrev pub PostedWatchClaim : Type 0
+PostedWatchClaim = (cs : List Call) (l : Lent) → Opened l → (i : ℕ) (k : Key) → NoStalePosted i k cs (outcomes cs l) closedDesks [] false
+
+-- WHAT ONE SESSION HAS QUEUED OR WATCHED ALTERS NO ANSWER TO ANOTHER: an answer, what is left of the store and of the session
+-- depend on the store and that session alone, and a request leaves the other sessions.
+pub record SameFor (i : ℕ) (l m : Lent) : Type 0 where
+  pub store : storeOf l ≡ storeOf m
+  pub session : sessionOf i l ≡ sessionOf i m
+
+-- the three parts
+pub record Isolated : Type 0 where
+  pub answers : (i : ℕ) (s : Bytes) (places room : ℕ) (l m : Lent) → valid l ≡ true → valid m ≡ true → SameFor i l m →
+      request-call i s places room l .outcome ≡ request-call i s places room m .outcome
+  pub leaves : (i : ℕ) (s : Bytes) (places room : ℕ) (l m : Lent) → valid l ≡ true → valid m ≡ true → SameFor i l m →
+      SameFor i (request-call i s places room l .lent) (request-call i s places room m .lent)
+  pub others : (i j : ℕ) (s : Bytes) (places room : ℕ) (l : Lent) → valid l ≡ true → j < 16 → (j ≡ i → ⊥) →
+      sessionOf j (request-call i s places room l .lent) ≡ sessionOf j l
+
+-- what a call posts, by its arguments and its answer
+abbrev pub postedBy : Call → Lent → List Desk → List Item
+postedBy c l ds = enter c (call c l .outcome) ds .items
+
+-- posting's queues and watches after a list of calls
+unfoldable pub desksAfter : List Call → Lent → List Desk → List Desk
+desksAfter [] l ds = ds
+desksAfter (c ∷ cs) l ds = desksAfter cs (call c l .lent) (enter c (call c l .outcome) ds .desks)
+
+-- From an opened store on, a call that posts nothing leaves the store.
+abbrev pub QuietClaim : Type 0
+QuietClaim =
+    (before : List Call) (l : Lent) → Opened l → (c : Call) → postedBy c (final before l) (desksAfter before l closedDesks) ≡ [] →
+    storeOf (call c (final before l) .lent) ≡ storeOf (final before l)
+
+-- the name is that of a command
+abbrev pub isCommand : Control → Bool
+isCommand MULTI = false
+isCommand EXEC = false
+isCommand DISCARD = false
+isCommand WATCH = false
+isCommand UNWATCH = false
+isCommand QUIT = false
+isCommand other = true
+
+-- the request is a command
+abbrev pub asksCommand : Asked → Bool
+asksCommand nothing = false
+asksCommand broken = false
+asksCommand (asks a) = isCommand (controlOf (rowOf (nameWord a) .name))
+
+-- what posts nothing: inside MULTI all but an accepted EXEC, outside it all but a command, and what returns a number
+pub record Quiet : Type 0 where
+  pub inside : (i : ℕ) (s : Bytes) (places room : ℕ) (o : Outcome) (ds : List Desk) (q : List Args) → getD ds i closed .queue ≡ some q →
+      (Accepts i (request i s places room) o → ⊥) → enter (request i s places room) o ds .items ≡ []
+  pub outside : (i : ℕ) (s : Bytes) (places room : ℕ) (o : Outcome) (ds : List Desk) → getD ds i closed .queue ≡ none →
+      asksCommand (askedBy s (readRequest places s)) ≡ false → enter (request i s places room) o ds .items ≡ []
+  pub numbers : (c : Call) (o : Outcome) (ds : List Desk) → (o .number ≡ 0 → ⊥) → enter c o ds .items ≡ []
+
+-- the call is a request of session i
+abbrev pub isOf : ℕ → Call → Bool
+isOf i (request j s places room) = eqb j i
+isOf i (grouped ms parts d verdicts) = false
+
+-- the calls that are none of session i
+unfoldable pub without : ℕ → List Call → List Call
+without i [] = []
+without i (c ∷ cs) = cond (isOf i c) (without i cs) (c ∷ without i cs)
+
+-- the outcomes of those calls
+unfoldable pub toOthers : ℕ → List Call → List Outcome → List Outcome
+toOthers i [] os = []
+toOthers i (c ∷ cs) [] = []
+toOthers i (c ∷ cs) (o ∷ os) = cond (isOf i c) (toOthers i cs os) (o ∷ toOthers i cs os)
+
+-- no request of session i posts: it queues and watches, and no EXEC of it is accepted
+abbrev pub PostsNothing : ℕ → List Call → Lent → List Desk → Type 0
+PostsNothing i [] l ds = Unit {0}
+PostsNothing i (c ∷ cs) l ds =
+    (isOf i c ≡ true → postedBy c l ds ≡ []) × PostsNothing i cs (call c l .lent) (enter c (call c l .outcome) ds .desks)
+
+-- the same store and the same sessions, but for what session i has queued or watched
+pub record SameBut (i : ℕ) (l m : Lent) : Type 0 where
+  pub store : storeOf l ≡ storeOf m
+  pub sessions : (j : ℕ) → j < 16 → (j ≡ i → ⊥) → sessionOf j l ≡ sessionOf j m
+
+-- every other call is answered as without the requests of session i
+pub record Unaltered (i : ℕ) (cs : List Call) (l m : Lent) : Type 0 where
+  pub answers : toOthers i cs (outcomes cs l) ≡ outcomes (without i cs) m
+  pub left : SameBut i (final cs l) (final (without i cs) m)
+
+-- From an opened store on, what session i has queued or watched alters no answer to another until its EXEC is accepted: `m` is
+-- what the calls `before` left, but for session i, and the later calls without its requests get the same answers and verdicts.
+abbrev pub IsolationClaim : Type 0
+IsolationClaim =
+    (before cs : List Call) (l m : Lent) (i : ℕ) → Opened l → valid m ≡ true → SameBut i (final before l) m →
+    PostsNothing i cs (final before l) (desksAfter before l closedDesks) → Unaltered i cs (final before l) m
+
+-- EVERY CALL LEAVES VALID STATE, so that from an opened store on no call returns 9.
+abbrev pub StaysValid : Type 0
+StaysValid = (c : Call) (l : Lent) → valid l ≡ true → valid (call c l .lent) ≡ true
+
+-- none of the outcomes is 9
+abbrev pub NoNine : List Outcome → Type 0
+NoNine [] = Unit {0}
+NoNine (o ∷ os) = (o .number ≡ 9 → ⊥) × NoNine os
+
+-- for any list of calls
+abbrev pub ValidClaim : Type 0
+ValidClaim = (cs : List Call) (l : Lent) → Opened l → (valid (final cs l) ≡ true) × NoNine (outcomes cs l)
+
+-- DEMAND 3 WHOLE, with the sentence on other sessions.
+pub record Demand3Holds : Type 0 where
+  pub claim : Claim
+  pub fed : FedClaim
+  pub counters : CounterClaim
+  pub counterReplies : CounterReplies
+  pub watches : WatchClaim
+  pub postedWatches : PostedWatchClaim
+  pub quiet : Quiet
+  pub quietCalls : QuietClaim
+  pub isolated : Isolated
+  pub isolation : IsolationClaim
+  pub staysValid : StaysValid
+  pub validity : ValidClaim

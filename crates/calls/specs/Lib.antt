@@ -1,0 +1,10 @@
+-- The definitions of this crate.
+pub mod Serve
+pub mod Calls
+pub mod Demand1
+pub mod Posting
+pub mod Demand3
+pub mod Made
+pub mod Frames
+pub mod Opens
+pub mod Readings

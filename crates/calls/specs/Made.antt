@@ -1,0 +1,79 @@
+-- Calls made through the published functions, each on the lent memory that the last one left, as the contracts tell it.
+use Prim.Native.Nat.{ℕ, _*_, _≤_}
+use mathlib.Core.Bool.{true, false, cond}
+use mathlib.Core.List.{List, [], _∷_}
+use mathlib.Core.Option.{none}
+use mathlib.Core.Path.{_≡_}
+use lib.Dec.{eqb}
+use lib.ListN.{length, take, replicate}
+use Rattle.key.specs.Bytes.{Bytes}
+use Rattle.key.specs.Keys.{Key}
+use Rattle.memtable.specs.Table.{find}
+use Rattle.memtable.specs.Versions.{table}
+use Rattle.batch.specs.declared.Member.{Member}
+use Rattle.server.specs.declared.Answer.{Answer}
+use Rattle.calls.specs.Serve.{Outcome}
+use Rattle.calls.specs.Calls.{Lent, lentOf, valid, storeOf, withStore, OpenPromise, RequestPromise, GroupPromise, Call, request, grouped}
+use Rattle.calls.specs.Posting.{Item, history, closedDesks, postAll, AllHold}
+use Rattle.calls.specs.Demand3.{Opened, OnlyCounted, textOf, sum, SumOf, NoStaleExec, NoStalePosted, desksAfter, without, toOthers, PostsNothing, SameBut, NoNine}
+
+-- WHAT THE CALLER SEES of a request: the reply is in front of the reply buffer
+abbrev pub requestSeen : Answer → Bytes → Outcome
+requestSeen r buffer = record { number = r .number; used = r .used; reply = take (r .reply) buffer; verdicts = [] }
+
+-- and of a group: a verdict byte for each member, unless a number is returned
+abbrev pub groupSeen : ℕ → List Member → Bytes → Outcome
+groupSeen n ms v = record { number = n; used = 0; reply = []; verdicts = cond (eqb n 0) (take (length ms) v) [] }
+
+-- the lent memory before the calls, the calls, what the caller saw of each, and the lent memory after them
+pub data Made : Lent → List Call → List Outcome → Lent → Type 0 where
+  unmade : {l : Lent} → Made l [] [] l
+  byRequest : {i : ℕ} {input : Bytes} {places : ℕ} {buffer : Bytes} {l : Lent} {r : Answer} {buffer′ : Bytes} {l₁ l₂ : Lent} {cs : List Call} {os : List Outcome}
+      → RequestPromise i input places buffer l r buffer′ l₁ → Made l₁ cs os l₂
+      → Made l (request i input places (length buffer) ∷ cs) (requestSeen r buffer′ ∷ os) l₂
+  byGroup : {ms : List Member} {parts : List ℕ} {d v : Bytes} {l : Lent} {n : ℕ} {v′ : Bytes} {w′ : List ℕ} {b′ : Bytes} {l₂ : Lent} {cs : List Call} {os : List Outcome}
+      → GroupPromise ms parts d v (l .words) (l .bytes) n v′ w′ b′ → Made (withStore w′ b′ l) cs os l₂
+      → Made l (grouped ms parts d v ∷ cs) (groupSeen n ms v′ ∷ os) l₂
+
+-- the items of posting's history, by what the caller saw
+abbrev pub itemsSeen : List Call → List Outcome → List Item
+itemsSeen cs os = history cs os closedDesks
+
+-- DEMAND 3 of the calls made: the table, the replies, the counters, the watched keys, and validity
+pub record Holds (cs : List Call) (os : List Outcome) (l l′ : Lent) : Type 0 where
+  pub tables : table (storeOf l′ .versions) ≡ postAll (itemsSeen cs os) []
+  pub replies : AllHold (itemsSeen cs os) []
+  pub counters : (k : Key) → OnlyCounted k (itemsSeen cs os) → find (table (storeOf l′ .versions)) k ≡ textOf (sum k (itemsSeen cs os) [] none)
+  pub sums : (k : Key) → SumOf k (itemsSeen cs os) none (sum k (itemsSeen cs os) [] none)
+  pub watches : (i : ℕ) (k : Key) → NoStalePosted i k cs os closedDesks [] false
+  pub moved : (i : ℕ) (k : Key) → NoStaleExec i k cs l closedDesks false
+  pub fit : valid l′ ≡ true
+  pub no-nine : NoNine os
+
+-- from an opened store on
+abbrev pub MadeClaim : Type 0
+MadeClaim = (l l′ : Lent) (cs : List Call) (os : List Outcome) → Opened l → Made l cs os l′ → Holds cs os l l′
+
+-- a store that the opening call has opened, beside sessions of zeros
+abbrev pub OpensClaim : Type 0
+OpensClaim =
+    (last versions size : ℕ) (w : List ℕ) (b : Bytes) (w′ : List ℕ) (b′ : Bytes) (n m : ℕ) → 16 * 613 ≤ n → 16 * 10240 ≤ m
+    → OpenPromise last versions size w b 0 w′ b′ → Opened (lentOf w′ b′ (replicate n 0) (replicate m 0))
+
+-- What session i has queued or watched alters no answer to another until its EXEC is accepted: the same calls made without its requests,
+-- on what the first calls left but for session i, are answered alike.
+pub record SeenAlike (i : ℕ) (cs : List Call) (os os′ : List Outcome) (l m : Lent) : Type 0 where
+  pub answers : toOthers i cs os ≡ os′
+  pub left : SameBut i l m
+
+abbrev pub MadeIsolation : Type 0
+MadeIsolation =
+    (l l₁ l₂ m m₂ : Lent) (before cs : List Call) (os₁ os₂ os′ : List Outcome) (i : ℕ)
+    → Opened l → Made l before os₁ l₁ → Made l₁ cs os₂ l₂ → valid m ≡ true → SameBut i l₁ m → Made m (without i cs) os′ m₂
+    → PostsNothing i cs l₁ (desksAfter before l closedDesks) → SeenAlike i cs os₂ os′ l₂ m₂
+
+-- all of it
+pub record MadeHolds : Type 0 where
+  pub opens : OpensClaim
+  pub claim : MadeClaim
+  pub isolation : MadeIsolation

@@ -1,0 +1,91 @@
+-- `glob::tail_matches` meets its contract. The invariant: some tail matches if and only if some tail from `from` on matches the pattern from `at` on, `Retrying`. Assumes nothing.
+use Prim.Native.Nat.{_+_, _-_, _<_, _≤_}
+use borrow.Author.Needs.{needs}
+use lib.ListN.{length, drop}
+use mathlib.Core.Bool.{false}
+use mathlib.Core.Path.{_≡_}
+use native.Mathlib.Omega.{arith}
+use Rattle.glob.proofs.Globbing.{Retrying, retrying-none, retry-whole, retry-end, retry-next, retry-star, tails-whole, tails-fail, tails-star, star-room}
+use Rattle.server.specs.Glob.{matches, tokens}
+use Rattle.server.specs.GlobWalk.{AtStar}
+use Rattle.glob.proofs.tail_matches.Statement.{statement}
+use Rattle.glob.proofs.tail_matches.Tie as tie
+
+abbrev Inv-loop : tie.InvT-loop
+Inv-loop pattern name at₀ from₀ at from = Retrying pattern name at from
+
+abbrev μ-loop : tie.MeasureT-loop
+μ-loop pattern name at₀ from₀ at from = (length pattern - at) + (length name - from)
+
+-- the answers of each arm
+reached : (c : tie.After-known-told Inv-loop μ-loop) → AtStar (drop (c .before .before .before .before .before .before .loop .at) (c .before .before .before .before .before .before .before .before .before .args .pattern .now)) (drop (c .before .before .before .before .before .before .loop .from) (c .before .before .before .before .before .before .before .before .before .args .name .now)) (c .before .found .given .0 .0) (c .before .found .given .0 .1 .0)
+reached c = search tails-star
+
+room : (c : tie.After-known-told Inv-loop μ-loop) → (0 < c .before .found .given .0 .0) × (c .before .before .before .before .before .before .loop .at + c .before .found .given .0 .0 ≤ length (c .before .before .before .before .before .before .before .before .before .args .pattern .now)) × (c .before .before .before .before .before .before .loop .from + c .before .found .given .0 .1 .0 ≤ length (c .before .before .before .before .before .before .before .before .before .args .name .now))
+room c = star-room (c .before .before .before .before .before .before .loop .inv) (reached c)
+
+failed : (c : tie.After-enum-told2 Inv-loop μ-loop) → matches (tokens (drop (c .before .before .before .before .before .loop .at) (c .before .before .before .before .before .before .before .before .args .pattern .now))) (drop (c .before .before .before .before .before .loop .from) (c .before .before .before .before .before .before .before .before .args .name .now)) ≡ false
+failed c = search tails-fail
+
+loop-holds : tie.Need-loop-holds Inv-loop μ-loop
+loop-holds c = search retrying-none
+
+sub-along : tie.Need-sub-along Inv-loop μ-loop
+sub-along c = search needs
+
+part-along-start : tie.Need-part-along-start Inv-loop μ-loop
+part-along-start c = search needs
+
+part-along-end : tie.Need-part-along-end Inv-loop μ-loop
+part-along-end c = search needs
+
+sub-along-2 : tie.Need-sub-along-2 Inv-loop μ-loop
+sub-along-2 c = search needs
+
+part-along-start-2 : tie.Need-part-along-start-2 Inv-loop μ-loop
+part-along-start-2 c = search needs
+
+part-along-end-2 : tie.Need-part-along-end-2 Inv-loop μ-loop
+part-along-end-2 c = search needs
+
+along-requires : tie.Need-along-requires Inv-loop μ-loop
+along-requires c κs = search needs
+
+enum-told : tie.Need-enum-told Inv-loop μ-loop
+enum-told c = search needs
+
+returns : tie.Need-returns Inv-loop μ-loop
+returns c = search (retry-whole, tails-whole)
+
+enum-known-found : tie.Need-enum-known-found Inv-loop μ-loop
+enum-known-found c = search needs
+
+add-at : tie.Need-add-at Inv-loop μ-loop
+add-at c = omega (arith, room c)
+
+add-from : tie.Need-add-from Inv-loop μ-loop
+add-from c = omega (arith, room c)
+
+loop-less : tie.Need-loop-less Inv-loop μ-loop
+loop-less c = omega (arith, room c)
+
+loop-again : tie.Need-loop-again Inv-loop μ-loop
+loop-again c = retry-star (c .before .before .before .before .before .before .loop .inv) (reached c)
+
+enum-told-2 : tie.Need-enum-told-2 Inv-loop μ-loop
+enum-told-2 c = search needs
+
+returns-2 : tie.Need-returns-2 Inv-loop μ-loop
+returns-2 c = retry-end (c .before .before .before .before .before .before .loop .inv) (failed (c .before)) (c .if1 .taken)
+
+add-from-2 : tie.Need-add-from-2 Inv-loop μ-loop
+add-from-2 c = search needs
+
+loop-less-2 : tie.Need-loop-less-2 Inv-loop μ-loop
+loop-less-2 c = search needs
+
+loop-again-2 : tie.Need-loop-again-2 Inv-loop μ-loop
+loop-again-2 c = retry-next (c .before .before .before .before .before .before .loop .inv) (failed (c .before)) (c .if1 .left)
+
+pub tail-matches-spec : {M : Type 1} → statement M
+tail-matches-spec = tie.close (tie.spec Inv-loop μ-loop loop-holds sub-along part-along-start part-along-end sub-along-2 part-along-start-2 part-along-end-2 along-requires enum-told returns enum-known-found add-at add-from loop-less loop-again enum-told-2 returns-2 add-from-2 loop-less-2 loop-again-2)

@@ -1,0 +1,5 @@
+-- The laws of this crate.
+pub mod Answering
+pub mod Executing
+pub mod KindRuns
+pub mod Listed

@@ -1,0 +1,57 @@
+// A command outside MULTI: what it means, then its reply, its verdict and its commit.
+pub mod listings;
+pub mod reads;
+pub mod writes;
+
+use command::Executed;
+use command::kinds;
+use server::Answer;
+ghost use mathlib.Core.Path.{_≡_};
+ghost use Prim.Native.Nat.{_≤_, _<_, _^_};
+ghost use lib.ListN.{length, replicate};
+ghost use Rattle.memtable.specs.Layout.{lastWord};
+ghost use Rattle.memtable.specs.Rows.{Valid};
+ghost use Rattle.server.specs.Command.{executedOf};
+ghost use Rattle.server.specs.Places.{argumentsAt, PartsIn};
+ghost use Rattle.direct.specs.Served.{Answers};
+
+// Runs the command of these arguments.
+pub fn run(
+    input: &[u8],
+    places: &[u64],
+    count: usize,
+    used: usize,
+    words: &mut [u64],
+    bytes: &mut [u8],
+    out: &mut [u8],
+) -> Answer
+    requires { ⌜ PartsIn (now places) (now input) count ⌝ }
+    requires { ⌜ 1 ≤ count ⌝ }
+    requires { ⌜ Valid (now words) (now bytes) ⌝ }
+    requires { ⌜ lastWord (now words) < 2 ^ 64 ⌝ }
+    requires { ⌜ now out ≡ replicate (length (now out)) 0 ⌝ }
+    ensures { λ r. ⌜ Answers (executedOf (argumentsAt 0 count (now (places .entry)) (now (input .entry)))) used (now (out .entry)) (now (words .entry)) (now (bytes .entry)) r (now (out .exit)) (now (words .exit)) (now (bytes .exit)) ⌝ }
+{
+    match command::executed_of(input, places, count) {
+        Executed::Runs(command) => writes::run_kind(
+            kinds::kind_of(command),
+            input,
+            places,
+            count,
+            used,
+            words,
+            bytes,
+            out,
+        ),
+        Executed::Lists(listing) => listings::answer_listing(
+            listing,
+            input,
+            places,
+            count,
+            used,
+            words,
+            bytes,
+            out,
+        ),
+    }
+}
