@@ -5,9 +5,13 @@ mixed-N.in       generated input (fixed seeds) that meets no number; mixed-N.out
 groups.in        group scripts (fixed seed) within capacities; groups.out is the Rust's output
 group-limits.in  group scripts that meet 6, 7 and 8; group-limits.out is the model's output
 limits.in        each limit reached exactly and one beyond, in one run; limits.out is the model's output
-published.in     published examples; published.out is what the pages say, byte for byte (published.md lists the sources)
+published.in     published examples; published.out is their expected output, byte for byte (published.md lists the sources and how they were taken)
 
-frames_rust must have been built (rust/build.sh). The script stops if the Rust, the model and the published bytes disagree.
+    make_samples.py                         the files under samples/
+    make_samples.py frames STDIN STDOUT     input and expected output for the program frames, one process: published, mixed-1 and each
+                                            limit, the store's at last
+
+frames_rust must have been built (rust/build.sh). The script stops if the Rust, the model and the bytes given as published disagree.
 """
 
 import os
@@ -83,13 +87,19 @@ def mixed():
         must(re.search(pattern, shown), f"no sample shows {pattern}")
 
 
-def limits():
-    """The runs of `generate.py limits` that leave most of the store free, one behind the other; then the store is filled."""
+def limit_lines():
+    """The runs of `generate.py limits` that leave most of the store free, one behind the other, each ended by QUIT."""
     lines = []
     part = re.compile(r"session|frame|rest|array|inline|count|QUIT|words|2 leaves|queued|cannot be queued|4 and|watch|named twice|5 leaves|MGET reply \+[01]$|EXEC reply \+[01]$")
     for name, run in generate.limit_runs():
         if part.search(name) and not re.search(r"\b(63|31|511|8191|2047|1023)\b|bytes left|versions,", name):
             lines += run + frame_lines(0, b"\nQUIT\n") + frame_lines(1, b"\nQUIT\n")
+    return lines
+
+
+def limits():
+    """The runs that leave most of the store free; then the store is filled."""
+    lines = limit_lines()
     store = model.Frames()
     for line in lines:
         store.line(line)
@@ -315,6 +325,8 @@ def published():
     notes = [
         "# Published examples",
         "",
+        "The pages were not at hand: these examples were written down from memory, and want a comparison with the pages themselves.",
+        "",
         "Lines of published.in and published.out, and where the requests and replies come from. A last DEL in an example only clears the",
         "keys for the next one. Two sessions (00, 01) are two clients. Left out are examples that document 01 narrows (commands, options,",
         "replies or texts that the Rust does not have or answers in another way).",
@@ -337,8 +349,107 @@ def published():
     print(f"published: {len(PUBLISHED)} examples, {len(given)} lines")
 
 
+# One input for the program frames
+
+
+class Told:
+    """Lines and the model behind them."""
+
+    def __init__(self):
+        self.frames = model.Frames()
+        self.lines, self.answers = [], []
+
+    def add(self, lines):
+        for line in lines:
+            self.lines.append(line)
+            self.answers.append(self.frames.line(line))
+
+    def say(self, session, *requests):
+        for data in requests:
+            self.add(frame_lines(session, data))
+
+    def clear_sessions(self):
+        """QUIT by each session that waits or has something queued or watched."""
+        for session in range(model.SESSIONS):
+            if self.frames.registry.sessions[session] != model.CLEAR or self.frames.rests[session]:
+                self.say(session, b"\nQUIT\n")
+            must(self.frames.registry.sessions[session] == model.CLEAR and not self.frames.rests[session], "a session is not clear")
+
+    def versions_left(self):
+        return 1024 - len(self.frames.registry.store.versions)
+
+    def bytes_left(self):
+        return 32768 - self.frames.registry.store.bytes_used()
+
+
+def fill_bytes(told, left):
+    """Writes values until `left` bytes are free."""
+    while told.bytes_left() > left:
+        size = min(2000, told.bytes_left() - left - 4)
+        told.say(0, say(b"SET", b"fill", b"f" * size))
+    must(told.bytes_left() == left, "the bytes are not filled as wanted")
+
+
+def fill_versions(told, left):
+    """Writes tombstones of the empty key, which take no bytes, until `left` versions are free."""
+    while told.versions_left() > left:
+        told.say(0, say(b"DEL", *[b""] * min(50, told.versions_left() - left)))
+
+
+def at_the_bytes(told):
+    """Three bytes are left, then one, then none."""
+    fill_bytes(told, 3)
+    told.say(0, say(b"SET", b"abcd", b""), b"MSET a 1 b 2\n", b"DEL abcd\n", b"INCRBY n 100\n", b"MULTI\nSET ab cd\nEXEC\n", b"DISCARD\n", b"MULTI\nSET a x\nSET a xxx\nEXEC\n", b"DISCARD\n")
+    told.say(0, b"INCR q\n", b"INCR q\n", b"SET a b\n", say(b"SET", b"a", b""), say(b"DEL", b""), b"DEL a\n", b"INCR a\n", b"SET s x\n", b"MGET q a abcd n\n")
+
+
+def at_the_versions(told):
+    """Three versions are left, then one, then none; no bytes are left, so only the empty key is written."""
+    fill_versions(told, 3)
+    told.say(0, say(b"DEL", b"", b"", b"", b""), say(b"WATCH", b""), b"MULTI\n", say(b"SET", b"", b""), say(b"SET", b"a", b"b"))
+    told.say(1, say(b"SET", b"", b""))
+    told.say(0, b"EXEC\n", say(b"GET", b""), say(b"DEL", b""), b"MULTI\n", say(b"DEL", b"", b""), say(b"SET", b"", b""), b"EXEC\n", say(b"DEL", b""), say(b"SET", b"", b""))
+    told.say(0, b"INCR a\n", b"INCRBY q x\n", b"INCRBY q 9223372036854775807\n", b"MULTI\nGET q\nEXEC\n", b"MULTI\nINCR q\nEXEC\n", b"EXEC\n", b"DISCARD\n")
+    told.say(0, b"MULTI\nFOO\nSET a 4\nEXEC\n", b"DBSIZE\n", b"MGET q a n\n", b"SCAN 0\n", b"RANGE q zz LIMIT 3\n")
+
+
+def read_lines(name):
+    with open(os.path.join(HERE, "samples", name), "rb") as f:
+        return model.lines_of(f.read())
+
+
+def frames_told():
+    """The lines of the input, their answers, and how many lines are in the domain."""
+    told = Told()
+    told.add(read_lines("published.in"))
+    must(told.answers == read_lines("published.out"), "frames: published is not answered as published.out says")
+    told.add(read_lines("mixed-1.in"))
+    told.clear_sessions()
+    domain = len(told.lines)
+    must(told.answers == rust(told.lines), "frames: the model and the Rust differ")
+    told.add(limit_lines())
+    told.clear_sessions()
+    at_the_bytes(told)
+    at_the_versions(told)
+    must(told.versions_left() == 0 and told.bytes_left() == 0, "frames: the store is not full at the end")
+    return told, domain
+
+
+def frames(stdin, stdout):
+    told, domain = frames_told()
+    for path, lines in ((stdin, told.lines), (stdout, told.answers)):
+        with open(path, "wb") as f:
+            f.write(text_of(lines))
+    print(f"frames: {len(told.lines)} lines; the first {domain} are in the domain, and the Rust answers them alike")
+
+
 if __name__ == "__main__":
-    mixed()
-    limits()
-    groups()
-    published()
+    if sys.argv[1:2] == ["frames"] and len(sys.argv) == 4:
+        frames(*sys.argv[2:])
+    elif len(sys.argv) == 1:
+        mixed()
+        limits()
+        groups()
+        published()
+    else:
+        sys.exit(__doc__)

@@ -1,29 +1,25 @@
--- Writes of ascending keys committed in one pass: the write of a turn, and the turns. Assumes nothing.
-use Prim.Native.Nat.{ℕ, zero, suc, _+_, _-_, _*_, _≤_, _<_}
-use native.Mathlib.Nat.{add-zero, eq-or-lt-of-le}
+-- Writes of ascending keys committed in one pass: the turns. Assumes nothing.
+use Prim.Native.Nat.{ℕ, suc, _+_, _-_, _≤_, _<_}
 use native.Mathlib.Omega.{arith}
-use mathlib.Core.Path.{_≡_, refl, sym, ap, _∙_, subst}
-use mathlib.Core.Logic.{⊎-elim}
-use mathlib.Core.Bool.{Bool, true, false, not, false≢true}
+use mathlib.Core.Path.{_≡_, sym, ap, _∙_, subst}
 use mathlib.Core.List.{List, [], _∷_, _++_}
-use lib.Dec.{eqb}
-use lib.ListN.{length, getD, set}
-use Rattle.key.specs.Bytes.{Bytes, part}
+use lib.ListN.{length, set}
+use Rattle.key.specs.Bytes.{Bytes}
 use Rattle.memtable.specs.declared.merge.Front.{Front}
 use Rattle.memtable.specs.declared.open.Left.{Left}
 use Rattle.memtable.specs.declared.open.Left.the-variants.{Rest, Short}
 use Rattle.memtable.specs.Table.{Write}
-use Rattle.memtable.specs.Versions.{bytesOf, commit}
-use Rattle.memtable.specs.Layout.{countWord, usedWord, lastWord, mostBytesWord, valueOfWord, storeIn, leaveWords, leaveBytes}
-use Rattle.memtable.specs.Rows.{Valid, valueIf, bytesLeft}
+use Rattle.memtable.specs.Versions.{commit}
+use Rattle.memtable.specs.Layout.{countWord, usedWord, lastWord, mostBytesWord, storeIn, leaveWords, leaveBytes}
+use Rattle.memtable.specs.Rows.{Valid, bytesLeft}
 use Rattle.memtable.specs.Merging.{Mergeable, frontAfter, wordsAfter, bytesAfter, leaveRows}
 use Rattle.memtable.proofs.TableLaws.{Ascending}
 use Rattle.memtable.proofs.MergeLaws.{ascending-last, ascending-front}
 use Rattle.memtable.proofs.MergePass.{Pass, pass-none, pass-mergeable, pass-more, pass-rows, pass-bytes, rows-headed}
-use Rattle.batch.specs.Members.{listFrom, allFrom, writeAt, writeInside}
-use Rattle.batch.specs.Settling.{keyPart, WriteIn, WritesIn, sizeAt, sizesFrom, RoomFor}
-use Rattle.batch.proofs.SizeLaws.{write-in, write-in-size, writes-size, list-long, rest-within, short-above}
-use Rattle.batch.proofs.PartLaws.{given-write}
+use Rattle.batch.specs.Members.{listFrom, writeAt, writeInside}
+use Rattle.batch.specs.Settling.{WriteIn, WritesIn, sizeAt, sizesFrom, RoomFor}
+use Rattle.batch.proofs.Walks.{list-long, join-list, all-at}
+use Rattle.batch.proofs.SizeLaws.{write-in, write-in-size, writes-size, rest-within, short-above}
 
 -- the size of the writes, from what they leave of the free bytes
 module _ (w ws : List ℕ) (first count : ℕ) {a u : ℕ} {o : Left} (a-is : a ≡ mostBytesWord ws) (u-is : u ≡ usedWord ws) (o-is : o ≡ bytesLeft (a - u) (sizesFrom w first count))
@@ -36,44 +32,6 @@ module _ (w ws : List ℕ) (first count : ℕ) {a u : ℕ} {o : Left} (a-is : a 
 
   pub size-short : o ≡ Short → 0 ≡ sizesFrom w first count
   size-short e = absurd (omega (arith, short-above (a - u) (sizesFrom w first count) (sym o-is ∙ e)))
-
--- the write that `merge_one` is given
-module _ (w : List ℕ) (d : Bytes) (j : ℕ) {a x : ℕ} (x-is : x ≡ getD w (4 * j + 3) 0) (a-is : a ≡ getD w (4 * j + 2) 0)
-    {k : Bytes} (v : Bytes) (k-is : k ≡ keyPart w d (4 * j)) (v-is : valueOfWord x v ≡ valueOfWord x (part a (x - 1) d)) where
-  write-is : _≡_ {A = Write} (k, valueIf (not (eqb x 0)) v) (writeAt w d j)
-  write-is = given-write w d j x-is a-is v k-is v-is
-
-  pub given-mergeable : {ws bs : List ℕ} {by : ℕ} {f : Front} → WriteIn w d j → Mergeable ws bs by (sizeAt w j) f
-      → Mergeable ws bs by (length k + length (bytesOf (valueIf (not (eqb x 0)) v))) f
-  given-mergeable {ws} {bs} {by} {f} i m =
-      subst (λ (n : ℕ). Mergeable ws bs by n f) (sym (ap (λ (y : Write). length (y .0) + length (bytesOf (y .1))) write-is ∙ write-in-size w d j i)) m
-
-  module _ (ws bs : List ℕ) (s by : ℕ) (f r : Front) where
-    pub given-front : r ≡ frontAfter (k, valueIf (not (eqb x 0)) v) s f ws bs → r ≡ frontAfter (writeAt w d j) s f ws bs
-    given-front e = e ∙ ap (λ (y : Write). frontAfter y s f ws bs) write-is
-
-    pub given-rows : {ws′ : List ℕ} → ws′ ≡ wordsAfter (k, valueIf (not (eqb x 0)) v) s by f r ws → ws′ ≡ wordsAfter (writeAt w d j) s by f r ws
-    given-rows e = e ∙ ap (λ (y : Write). wordsAfter y s by f r ws) write-is
-
-    pub given-data : {bs′ : List ℕ} → bs′ ≡ bytesAfter (k, valueIf (not (eqb x 0)) v) f r bs → bs′ ≡ bytesAfter (writeAt w d j) f r bs
-    given-data e = e ∙ ap (λ (y : Write). bytesAfter y f r bs) write-is
-
--- the last of a list, and a test that holds at all places holds at each
-list-last : {A : Type 0} (f : ℕ → A) (i n : ℕ) → listFrom f i (suc n) ≡ listFrom f i n ++ (f (i + n) ∷ [])
-unfolding listFrom
-list-last f i zero = ap (λ (x : ℕ). f x ∷ []) (sym (add-zero i))
-list-last f i (suc n) =
-    let e : suc i + n ≡ i + suc n = omega arith in
-    ap (λ (l : List _). f i ∷ l) (list-last f (suc i) n ∙ ap (λ (x : ℕ). listFrom f (suc i) n ++ (f x ∷ [])) e)
-
-all-at : (f : ℕ → Bool) (i n k : ℕ) → allFrom f i n ≡ true → i ≤ k → k < i + n → f k ≡ true
-unfolding allFrom
-all-at f i zero k e l h = absurd (omega arith)
-all-at f i (suc n) k e l h = go (f i) refl e (λ q z. all-at f (suc i) n k q z (omega arith))
-  where
-    go : (t : Bool) → f i ≡ t → elim t [ true ↦ allFrom f (suc i) n | false ↦ false ] ≡ true → (allFrom f (suc i) n ≡ true → i < k → f k ≡ true) → f k ≡ true
-    go true p q later = ⊎-elim (λ (z : i ≡ k). ap f (sym z) ∙ p) (λ (z : i < k). later q z) (eq-or-lt-of-le l)
-    go false p q later = absurd (false≢true q)
 
 -- THE TURNS: the first j writes are left
 pub record Turning (w : List ℕ) (d : Bytes) (first count : ℕ) (ws₀ bs₀ ws bs : List ℕ) (f : Front) (j : ℕ) : Type 0 where
@@ -115,7 +73,8 @@ module _ {w : List ℕ} {d : Bytes} {first count : ℕ} {ws₀ bs₀ ws bs : Lis
     wr = writeAt w d (first + (j - 1))
 
     left-is : listFrom (writeAt w d) first j ≡ left ++ (wr ∷ [])
-    left-is = let e : j ≡ suc (j - 1) = omega arith in ap (listFrom (writeAt w d) first) e ∙ list-last (writeAt w d) first (j - 1)
+    unfolding listFrom
+    left-is = let e : j ≡ j - 1 + 1 = omega arith in ap (listFrom (writeAt w d) first) e ∙ join-list (writeAt w d) first (j - 1) 1
 
     next : Pass ws₀ bs₀ (listFrom (writeAt w d) first count) (left ++ (wr ∷ [])) f ws bs
     next = subst (λ (l : List Write). Pass ws₀ bs₀ (listFrom (writeAt w d) first count) l f ws bs) left-is (t .pass)

@@ -4,7 +4,7 @@ use native.Mathlib.Omega.{arith}
 use mathlib.Core.Path.{_≡_, refl, sym, ap, _∙_, subst}
 use mathlib.Core.Bool.{Bool, true, false}
 use mathlib.Core.List.{List, [], _∷_, _++_, map, append-nil, append-assoc}
-use lib.ListN.{length, getD, drop, set, length-append}
+use lib.ListN.{length, length-map, getD, drop, set, length-append}
 use lib.Seq.{drop-cons, drop-length, set-append-seam}
 use Rattle.key.specs.Bytes.{Bytes, _and_, over-front}
 use Rattle.key.specs.Keys.{Key}
@@ -80,10 +80,6 @@ map-more : (vs : List Verdict) (v : Verdict) → map verdictByte (vs ++ (v ∷ [
 map-more [] v = refl
 map-more (x ∷ vs) v = ap (λ (l : List ℕ). verdictByte x ∷ l) (map-more vs v)
 
-map-long : (vs : List Verdict) → length (map verdictByte vs) ≡ length vs
-map-long [] = refl
-map-long (x ∷ vs) = ap suc (map-long vs)
-
 -- i members are settled, and the others follow from the words, bytes and verdict bytes as they stand
 pub record Walking (ms : List Member) (began : ℕ) (parts : List ℕ) (d : Bytes) (w₀ b₀ v₀ : List ℕ) (i room : ℕ) (w b v : List ℕ) : Type 0 where
   pub store : Store
@@ -156,7 +152,7 @@ module _ {ms : List Member} {began : ℕ} {parts : List ℕ} {d : Bytes} {w₀ b
           ∙ ap (λ (l : List ℕ). over-front l v₀) (sym (map-more (k .settled) verdict))
         where
           place : i ≡ length (map verdictByte (k .settled))
-          place = sym (k .count) ∙ sym (map-long (k .settled))
+          place = sym (k .count) ∙ sym (length-map (k .settled) verdictByte)
 
       one-more : length (k .settled ++ (verdict ∷ [])) ≡ suc i
       one-more = let e = length-append (k .settled) (verdict ∷ []) in omega (arith, k .count)

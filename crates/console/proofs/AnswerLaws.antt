@@ -69,10 +69,6 @@ hexing-more {reply} {entry} {out} {i} {h} {l} x below eh el =
       written = rw count at second;
     }
 
--- the place of the second digit
-pub second-place : {reply entry out : Bytes} {i : ℕ} → Hexing reply entry i out → i < length reply → (h : ℕ) → i * 2 + 1 < length (set out (i * 2) h)
-second-place {reply} {entry} {out} {i} x below h = lt-length-set out (i * 2) h (omega (arith, x .room, x .size))
-
 pub hexing-whole : {reply entry out : Bytes} {i : ℕ} → Hexing reply entry i out → length reply ≤ i → Puts (hex reply) entry (Wrote (i * 2)) out
 hexing-whole {reply} {entry} {out} {i} x all = done (x .written) (ap hex (sym (take-all i reply all)))
 

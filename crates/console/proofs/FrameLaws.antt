@@ -2,7 +2,7 @@
 use Prim.Native.Nat.{ℕ, suc, _+_, _-_, _≤_, _<_}
 use native.Mathlib.Decide.{decLe}
 use native.Mathlib.Omega.{arith}
-use mathlib.Core.Path.{_≡_, refl, sym, ap, _∙_}
+use mathlib.Core.Path.{_≡_, refl, sym, ap, ap₂, _∙_}
 use mathlib.Core.Bool.{Bool, true, false, cond}
 use mathlib.Core.List.{List, [], _∷_, _++_, append-assoc}
 use mathlib.Core.Option.{Option, none, some}
@@ -18,7 +18,7 @@ use Rattle.console.specs.declared.pieces.Mark.{Mark}
 use Rattle.console.specs.declared.pieces.Mark.the-variants.{NoMark, Number, Dropped}
 use Rattle.console.specs.Pieces.{headText, numberText, malformedText, markText, markOrDash, endText, some?}
 use Rattle.console.specs.Rest.{restOf}
-use Rattle.console.specs.Served.{stateIn, FrameServed, markAfter, Answered}
+use Rattle.console.specs.Served.{stateIn, requestsLeft, orSome, FrameServed, markAfter, Answered}
 use Rattle.console.proofs.AnswerLaws.{dash-is}
 use Rattle.console.proofs.ServedLaws.{no-session}
 
@@ -37,12 +37,13 @@ rest-marked replies rest m st = go (decLe (length rest) 4096)
     go (yes h) = rw (le-leb (length rest) 4096 h)
     go (no h) = let k : 4096 < length rest = omega arith in rw (lt-leb (length rest) 4096 k)
 
--- a frame of a session below 16
-pub frame-answered : (g : Given) (c : Console) {s : Bytes} {l l′ : Lent} {replied : Bool} {mark : Mark} {rest : Bytes} → c .state ≡ stateIn l → s ≡ getD (c .rests) (g .session) [] ++ g .input
-    → FrameServed (g .session) s l replied mark rest l′ → Answered g c replied (markAfter mark rest) (record { state = stateIn l′; rests = set (c .rests) (g .session) (restOf rest) })
-unfolding answerGiven
-frame-answered g c {s} {l} {l′} {replied} {mark} {rest} state bytes f =
-    record { replies = f .replies; told = f .told; out = ap (λ (x : Frame). shown i x ++ 10 ∷ []) whole ∙ line-is i (f .replies) (restOf rest) (markAfter mark rest) (stateIn l′) ∙ rw (f .told) refl; console = ap (λ (x : Frame). record { state = x .state; rests = set (c .rests) i (x .rest) }) whole }
+-- a frame of a session below 16: its requests are served behind `t` and its session
+pub frame-answered : (g : Given) (c : Console) (t : Bytes) {s t′ : Bytes} {l l′ : Lent} {replied : Bool} {mark : Mark} {rest : Bytes} → c .state ≡ stateIn l → s ≡ getD (c .rests) (g .session) [] ++ g .input
+    → FrameServed (g .session) s l false (t ++ headText (g .session)) mark rest l′ replied t′
+    → Answered (some g) c t (record { state = stateIn l′; rests = set (c .rests) (g .session) (restOf rest) }) (t′ ++ endText replied (markAfter mark rest))
+unfolding answerGiven requestsLeft orSome
+frame-answered g c t {s} {t′} {l} {l′} {replied} {mark} {rest} state bytes f =
+    record { out = pieces-are ∙ ap (λ (x : Bytes). t ++ x) (sym (ap (λ (x : Frame). shown i x ++ 10 ∷ []) whole ∙ line-is i (f .replies) (restOf rest) (markAfter mark rest) (stateIn l′))); console = ap (λ (x : Frame). record { state = x .state; rests = set (c .rests) i (x .rest) }) whole }
   where
     i : ℕ
     i = g .session
@@ -50,16 +51,22 @@ frame-answered g c {s} {l} {l′} {replied} {mark} {rest} state bytes f =
     whole : held-rest (requests (length (getD (c .rests) (g .session) [] ++ g .input)) (g .session) (getD (c .rests) (g .session) [] ++ g .input) (c .state)) ≡ record { replies = f .replies; mark = markText (markAfter mark rest); rest = restOf rest; state = stateIn l′ }
     whole = (λ z. held-rest (requests (length (sym bytes z)) (g .session) (sym bytes z) (state z))) ∙ ap held-rest (f .is) ∙ rest-marked (f .replies) rest mark (stateIn l′)
 
+    pieces-are : t′ ++ endText replied (markAfter mark rest) ≡ t ++ (headText (g .session) ++ (hex (f .replies) ++ endText (some? (f .replies)) (markAfter mark rest)))
+    pieces-are =
+        ap₂ (λ (x : Bytes) (b : Bool). x ++ endText b (markAfter mark rest)) (f .text ∙ append-assoc t (headText (g .session)) (hex (f .replies))) (f .told)
+        ∙ append-assoc t (headText (g .session) ++ hex (f .replies)) (endText (some? (f .replies)) (markAfter mark rest))
+        ∙ ap (λ (x : Bytes). t ++ x) (append-assoc (headText (g .session)) (hex (f .replies)) (endText (some? (f .replies)) (markAfter mark rest)))
+
 -- no rest is no rest above 4,096 bytes
 nothing-held : (mark : Bytes) (st : State) → held-rest (stops mark [] st) ≡ stops mark [] st
 unfolding held-rest
 nothing-held mark st = refl
 
 -- a frame of a session above 15
-pub frame-refused : (g : Given) (c : Console) → 16 ≤ g .session → 1 ≤ length (g .input) → length (c .rests) ≡ 16 → Answered g c false (Number 1) c
-unfolding answerGiven markText numberText digits digitsWithin
-frame-refused g c above some-bytes many =
-    record { replies = []; told = refl; out = ap (λ (x : Frame). shown (g .session) x ++ 10 ∷ []) whole ∙ line-is (g .session) [] [] (Number 1) (c .state); console = ap (λ (x : Frame). record { state = x .state; rests = set (c .rests) (g .session) (x .rest) }) whole ∙ ap (λ (r : List Bytes). record { state = c .state; rests = r }) (set-out (c .rests) (g .session) [] (omega arith)) }
+pub frame-refused : (g : Given) (c : Console) → 16 ≤ g .session → 1 ≤ length (g .input) → length (c .rests) ≡ 16 → (t : Bytes) → Answered (some g) c t c (t ++ (headText (g .session) ++ endText false (Number 1)))
+unfolding answerGiven markText numberText digits digitsWithin hex
+frame-refused g c above some-bytes many t =
+    record { out = ap (λ (x : Bytes). t ++ x) (sym (ap (λ (x : Frame). shown (g .session) x ++ 10 ∷ []) whole ∙ line-is (g .session) [] [] (Number 1) (c .state))); console = ap (λ (x : Frame). record { state = x .state; rests = set (c .rests) (g .session) (x .rest) }) whole ∙ ap (λ (r : List Bytes). record { state = c .state; rests = r }) (set-out (c .rests) (g .session) [] (omega arith)) }
   where
     size : length (getD (c .rests) (g .session) [] ++ g .input) ≡ suc (length (getD (c .rests) (g .session) [] ++ g .input) - 1)
     size = omega (arith, length-append (getD (c .rests) (g .session) []) (g .input))
@@ -71,6 +78,6 @@ frame-refused g c above some-bytes many =
         ∙ nothing-held (markText (Number 1)) (c .state)
 
 -- a line of another form
-pub malformed-line : (c : Console) → malformedText ≡ answerGiven none c .out ++ 10 ∷ []
+pub malformed-line : (c : Console) (t : Bytes) → Answered none c t c (t ++ malformedText)
 unfolding answerGiven malformedText
-malformed-line c = refl
+malformed-line c t = record { out = refl; console = refl }

@@ -83,13 +83,13 @@ own-before a b c held inside h =
     ∙ ap (take c) (drop-drop b a held)
 
 -- THE RESTS, by what each session holds
-rest-of : (counts : List ℕ) (held : Bytes) (j : ℕ) → j < 16 → getD (restsIn counts held) j [] ≡ heldAt counts held j
+pub rest-of : (counts : List ℕ) (held : Bytes) (j : ℕ) → j < 16 → getD (restsIn counts held) j [] ≡ heldAt counts held j
 unfolding restsIn
 rest-of counts held j h =
     let e : 0 + j ≡ j = omega arith in
     listed-at (heldAt counts held) 16 0 j [] h ∙ ap (heldAt counts held) e
 
-rests-many : (counts : List ℕ) (held : Bytes) → length (restsIn counts held) ≡ 16
+pub rests-many : (counts : List ℕ) (held : Bytes) → length (restsIn counts held) ≡ 16
 unfolding restsIn
 rests-many counts held = listed-length (heldAt counts held) 16 0
 
@@ -125,7 +125,7 @@ module _ (counts : List ℕ) (held last : Bytes) (i : ℕ) (below : i < 16) (siz
       go (no h) (no k) = let e : j ≡ i = omega arith in absurd (n e)
 
 -- READING A LINE into a session's part
-session-is : (i : ℕ) (o : Option Bytes) (g : F.Given) → F.givenOf true i o ≡ some g → g .session ≡ i
+pub session-is : (i : ℕ) (o : Option Bytes) (g : F.Given) → F.givenOf true i o ≡ some g → g .session ≡ i
 unfolding F.givenOf
 session-is i none g e = let z : _≡_ {A = ℕ} 0 1 = cc in absurd (omega arith)
 session-is i (some s) g e = go (leb 1 (length s) && leb (length s) 4096) e
@@ -134,7 +134,7 @@ session-is i (some s) g e = go (leb 1 (length s) && leb (length s) 4096) e
     go true e = let f : record { session = i; input = s } ≡ g = cc in sym (ap (λ (x : F.Given). x .session) f)
     go false e = let z : _≡_ {A = ℕ} 0 1 = cc in absurd (omega arith)
 
-input-size : (i : ℕ) (o : Option Bytes) (g : F.Given) → F.givenOf true i o ≡ some g → length (g .input) ≤ 4096
+pub input-size : (i : ℕ) (o : Option Bytes) (g : F.Given) → F.givenOf true i o ≡ some g → length (g .input) ≤ 4096
 unfolding F.givenOf
 input-size i none g e = let z : _≡_ {A = ℕ} 0 1 = cc in absurd (omega arith)
 input-size i (some s) g e = go (leb 1 (length s)) (leb (length s) 4096) refl e

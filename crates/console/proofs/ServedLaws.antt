@@ -1,13 +1,14 @@
 -- The requests of a frame, peeled off one by one: a loop whose body is one request call. Assumes nothing.
 use Prim.Native.Nat.{ℕ, zero, suc, _+_, _-_, _≤_, _<_}
 use native.Mathlib.Numerals.{add-one}
+use native.Mathlib.Decide.{ℕ-discrete}
 use native.Mathlib.Omega.{arith}
 use mathlib.Core.Path.{_≡_, refl, sym, ap, ap₂, _∙_}
 use mathlib.Core.Bool.{Bool, true, false, cond}
 use mathlib.Core.List.{List, [], _∷_, _++_, append-assoc, append-nil}
 use lib.Dec.{eqb, ltb}
-use lib.ListN.{length, drop, getD, set, length-drop}
-use lib.Seq.{ext-getD, set-getD}
+use lib.ListN.{length, take, drop, getD, set, replicate, length-drop, length-append}
+use lib.Seq.{ext-getD, set-getD, take-at}
 use borrow.Author.Tests.{ltb-true, eq-eqb, ne-eqb, lt-ltb, le-ltb}
 use Rattle.key.specs.Bytes.{Bytes, bytes}
 use Rattle.number.specs.Decimal.{digits, digitsWithin}
@@ -15,15 +16,17 @@ use Rattle.resp.specs.Opens.{resp-opens}
 use Rattle.resp.specs.Request.{readRequest, waits}
 use Rattle.server.specs.declared.Answer.{Answer}
 use Rattle.server.specs.Session.{Session, clear}
+use Rattle.server.specs.Finish.{replyBuffer}
 use Rattle.calls.specs.Serve.{State, Outcome, Stepped, requestOn, serve, serveReading, refused}
 use Rattle.calls.specs.Calls.{Lent, Called, valid, storeOf, sessionOf, request-call, answerOf, RequestPromise}
-use Rattle.calls.specs.Frames.{Frame, stops, requests, closes}
+use Rattle.calls.specs.Frames.{Frame, stops, requests, closes, hex}
 use Rattle.calls.proofs.StateLaws.{Represents, SameStep, request-same}
 use Rattle.calls.proofs.LentLaws.{request-refused, request-served, request-leaves}
 use Rattle.console.specs.declared.pieces.Mark.{Mark}
 use Rattle.console.specs.declared.pieces.Mark.the-variants.{NoMark, Number, Dropped}
 use Rattle.console.specs.Pieces.{numberText, markText, some?}
-use Rattle.console.specs.Served.{listed, stateIn, behind, Serving, FrameServed}
+use Rattle.console.specs.Served.{listed, stateIn, behind, requestsLeft, orSome, Serving, FrameServed}
+use Rattle.console.proofs.AnswerLaws.{hex-append}
 
 -- A LIST BY ITS PLACES
 pub listed-length : {A : Type 0} (f : ℕ → A) (n i : ℕ) → length (listed f n i) ≡ n
@@ -116,48 +119,119 @@ nothing-left (suc fuel) i st h =
     let e = nothing-first i st h in
     peel-waits fuel i [] st (ap (λ (x : Stepped). x .outcome .number) e) (ap (λ (x : Stepped). x .outcome .used) e) ∙ ap (λ (x : Stepped). stops [] [] (x .state)) e
 
+-- MORE FUEL than bytes changes nothing
+fuel-none : (m i : ℕ) (s : Bytes) (st : State) → i < 16 → length s ≤ 0 → requests 0 i s st ≡ requests m i s st
+fuel-none m i [] st h a = nothing-left 0 i st h ∙ sym (nothing-left m i st h)
+fuel-none m i (x ∷ s) st h a = absurd (omega arith)
+
+fuel-step : (n m i : ℕ) (s : Bytes) (st : State) → i < 16 → length s ≤ suc n → length s ≤ suc m
+    → ((t : Bytes) (st′ : State) → length t ≤ n → length t ≤ m → requests n i t st′ ≡ requests m i t st′)
+    → requests (suc n) i s st ≡ requests (suc m) i s st
+fuel-step n m i [] st h a b again = nothing-left (suc n) i st h ∙ sym (nothing-left (suc m) i st h)
+fuel-step n m i (x ∷ s) st h a b again = go (ℕ-discrete (first i (x ∷ s) st .outcome .number) 0) (ℕ-discrete (first i (x ∷ s) st .outcome .used) 0)
+  where
+    shorter : (first i (x ∷ s) st .outcome .used ≡ 0 → ⊥) → (c : Bool) → length (cond c [] (drop (first i (x ∷ s) st .outcome .used) (x ∷ s))) ≤ length s
+    shorter u true = omega arith
+    shorter u false = omega (arith, length-drop (first i (x ∷ s) st .outcome .used) (x ∷ s), u)
+
+    go : Dec (first i (x ∷ s) st .outcome .number ≡ 0) → Dec (first i (x ∷ s) st .outcome .used ≡ 0) → requests (suc n) i (x ∷ s) st ≡ requests (suc m) i (x ∷ s) st
+    go (no u) k = peel-number n i (x ∷ s) st u ∙ sym (peel-number m i (x ∷ s) st u)
+    go (yes e) (yes w) = peel-waits n i (x ∷ s) st e w ∙ sym (peel-waits m i (x ∷ s) st e w)
+    go (yes e) (no u) =
+        let k = shorter u (closes (x ∷ s) (readRequest 1024 (x ∷ s))) in
+        peel-used n i (x ∷ s) st e u
+        ∙ ap (behind (first i (x ∷ s) st .outcome .reply)) (again (cond (closes (x ∷ s) (readRequest 1024 (x ∷ s))) [] (drop (first i (x ∷ s) st .outcome .used) (x ∷ s))) (first i (x ∷ s) st .state) (omega (arith, k)) (omega (arith, k)))
+        ∙ sym (peel-used m i (x ∷ s) st e u)
+
+fuel-same : (n m i : ℕ) (s : Bytes) (st : State) → i < 16 → length s ≤ n → length s ≤ m → requests n i s st ≡ requests m i s st
+fuel-same zero m i s st h a b = fuel-none m i s st h a
+fuel-same (suc n) zero i s st h a b = sym (fuel-none (suc n) i s st h b)
+fuel-same (suc n) (suc m) i s st h a b = fuel-step n m i s st h a b (λ t st′ k l. fuel-same n m i t st′ h k l)
+
+-- WHETHER A REPLY BYTE WAS WRITTEN
+or-none : (b : Bool) → b ≡ orSome b []
+unfolding orSome
+or-none true = refl
+or-none false = refl
+
+pub or-append : (b : Bool) (r t : Bytes) → orSome (orSome b r) t ≡ orSome b (r ++ t)
+unfolding orSome
+or-append true r t = refl
+or-append false [] t = refl
+or-append false (x ∷ r) t = refl
+
+some-more : (b : Bool) (r : Bytes) → 0 < length r → true ≡ orSome b r
+unfolding orSome
+some-more true r h = refl
+some-more false [] h = absurd (omega arith)
+some-more false (x ∷ r) h = refl
+
+none-more : (b : Bool) (r : Bytes) → length r ≡ 0 → b ≡ orSome b r
+none-more b [] h = or-none b
+none-more b (x ∷ r) h = absurd (omega arith)
+
 -- THE LOOP. Before the first request
-pub serving-start : (i : ℕ) (s : Bytes) (l : Lent) → valid l ≡ true → Serving i s l false s l
-serving-start i s l ok = record { fuel = length s; replies = []; fit = ok; enough = omega arith; told = refl; peeled = refl }
+pub serving-start : (i : ℕ) (s : Bytes) (l : Lent) (b : Bool) (t : Bytes) → valid l ≡ true → Serving i s l b t s l b t
+unfolding hex
+serving-start i s l b t ok = record { replies = []; fit = ok; told = or-none b; text = sym (append-nil t); is = refl }
+
+-- some requests, and some more
+module _ {i : ℕ} {s s₁ : Bytes} {l l₁ : Lent} {b b₁ : Bool} {t t₁ : Bytes} (x : Serving i s l b t s₁ l₁ b₁ t₁) where
+  more-told : {b₂ : Bool} (r : Bytes) → b₂ ≡ orSome b₁ r → b₂ ≡ orSome b (x .replies ++ r)
+  more-told r e = e ∙ ap (λ (c : Bool). orSome c r) (x .told) ∙ or-append b (x .replies) r
+
+  more-text : {t₂ : Bytes} (r : Bytes) → t₂ ≡ t₁ ++ hex r → t₂ ≡ t ++ hex (x .replies ++ r)
+  more-text r e = e ∙ ap (λ (u : Bytes). u ++ hex r) (x .text) ∙ append-assoc t (hex (x .replies)) (hex r) ∙ ap (λ (u : Bytes). t ++ u) (sym (hex-append (x .replies) r))
+
+  pub serving-more : {s₂ : Bytes} {l₂ : Lent} {b₂ : Bool} {t₂ : Bytes} → Serving i s₁ l₁ b₁ t₁ s₂ l₂ b₂ t₂ → Serving i s l b t s₂ l₂ b₂ t₂
+  serving-more {s₂} {l₂} y = record {
+    replies = x .replies ++ y .replies;
+    fit = y .fit;
+    told = more-told (y .replies) (y .told);
+    text = more-text (y .replies) (y .text);
+    is =
+        x .is ∙ ap (behind (x .replies)) (y .is)
+        ∙ ap (λ (u : Bytes). record { replies = u; mark = later .mark; rest = later .rest; state = later .state }) (sym (append-assoc (x .replies) (y .replies) (later .replies)));
+  }
+    where
+      later : Frame
+      later = requestsLeft i s₂ l₂
+
+  pub serving-last : {mark : Mark} {rest : Bytes} {l₂ : Lent} {b₂ : Bool} {t₂ : Bytes} → FrameServed i s₁ l₁ b₁ t₁ mark rest l₂ b₂ t₂ → FrameServed i s l b t mark rest l₂ b₂ t₂
+  serving-last y = record {
+    replies = x .replies ++ y .replies;
+    fit = y .fit;
+    told = more-told (y .replies) (y .told);
+    text = more-text (y .replies) (y .text);
+    is = x .is ∙ ap (behind (x .replies)) (y .is);
+  }
 
 -- no bytes are left
-pub serving-end : {i : ℕ} {s₀ s : Bytes} {l₀ l : Lent} {replied : Bool} → Serving i s₀ l₀ replied s l → i < 16 → s ≡ [] → FrameServed i s₀ l₀ replied NoMark [] l
-unfolding markText
-serving-end {i} {s₀} {s} {l₀} {l} x h e = record {
-  replies = x .replies;
-  fit = x .fit;
-  told = x .told;
-  is =
-      x .peeled ∙ ap (λ (t : Bytes). behind (x .replies) (requests (x .fuel) i t (stateIn l))) e
-      ∙ ap (behind (x .replies)) (nothing-left (x .fuel) i (stateIn l) h)
-      ∙ ap (λ (r : Bytes). record { replies = r; mark = []; rest = []; state = stateIn l }) (append-nil (x .replies));
-}
+pub serving-end : {i : ℕ} (l : Lent) (b : Bool) (t : Bytes) → valid l ≡ true → i < 16 → FrameServed i [] l b t NoMark [] l b t
+unfolding markText requestsLeft hex
+serving-end {i} l b t ok h = record { replies = []; fit = ok; told = or-none b; text = sym (append-nil t); is = nothing-left 0 i (stateIn l) h }
 
-some-more : (a b : Bytes) → 0 < length b → true ≡ some? (a ++ b)
-some-more [] [] h = absurd (omega arith)
-some-more [] (x ∷ b) h = refl
-some-more (x ∷ a) b h = refl
-
-none-more : (a b : Bytes) → length b ≡ 0 → some? a ≡ some? (a ++ b)
-none-more a [] h = ap some? (sym (append-nil a))
-none-more a (x ∷ b) h = absurd (omega arith)
+-- a reply is no longer than its buffer
+pub reply-short : {i places : ℕ} {s buffer buffer′ : Bytes} {l l′ : Lent} {r : Answer} → RequestPromise i s places buffer l r buffer′ l′ → length buffer′ ≡ length buffer → r .reply ≤ length buffer
+unfolding replyBuffer
+reply-short {i} {places} {s} {buffer} {buffer′} {l} p same =
+    let reply = request-call i s places (length buffer) l .outcome .reply in
+    let whole = ap length (p .reply) ∙ length-append reply (replicate (length buffer - length reply) 0) in
+    omega (arith, whole, ap (λ (a : Answer). a .reply) (p .answer))
 
 -- one request call on the bytes that are left
-module _ {i : ℕ} {s₀ s : Bytes} {l₀ l l′ : Lent} {replied : Bool} {buffer buffer′ : Bytes} {r : Answer} (x : Serving i s₀ l₀ replied s l) (some-bytes : 0 < length s) (room : length buffer ≡ 32768) (p : RequestPromise i s 1024 buffer l r buffer′ l′) where
-  outcome : Outcome
-  outcome = first i s (stateIn l) .outcome
-
+module _ {i : ℕ} {s : Bytes} {l l′ : Lent} {buffer buffer′ : Bytes} {r : Answer} (below : i < 16) (fit : valid l ≡ true) (some-bytes : 0 < length s) (room : length buffer ≡ 32768) (p : RequestPromise i s 1024 buffer l r buffer′ l′) where
   at-room : request-call i s 1024 (length buffer) l ≡ request-call i s 1024 32768 l
   at-room = ap (λ (k : ℕ). request-call i s 1024 k l) room
 
   answer-is : r ≡ answerOf (first i s (stateIn l) .outcome)
-  answer-is = p .answer ∙ ap (λ (c : Called). answerOf (c .outcome)) at-room ∙ ap answerOf (call-outcome i s l (x .fit))
+  answer-is = p .answer ∙ ap (λ (c : Called). answerOf (c .outcome)) at-room ∙ ap answerOf (call-outcome i s l fit)
 
   state-left : stateIn l′ ≡ first i s (stateIn l) .state
-  state-left = ap stateIn (p .lent ∙ ap (λ (c : Called). c .lent) at-room) ∙ call-state i s l (x .fit)
+  state-left = ap stateIn (p .lent ∙ ap (λ (c : Called). c .lent) at-room) ∙ call-state i s l fit
 
   left-fit : valid l′ ≡ true
-  left-fit = ap valid (p .lent ∙ ap (λ (c : Called). c .lent) at-room) ∙ call-fit i s l (x .fit)
+  left-fit = ap valid (p .lent ∙ ap (λ (c : Called). c .lent) at-room) ∙ call-fit i s l fit
 
   number-is : r .number ≡ first i s (stateIn l) .outcome .number
   number-is = ap (λ (a : Answer). a .number) answer-is
@@ -168,69 +242,75 @@ module _ {i : ℕ} {s₀ s : Bytes} {l₀ l l′ : Lent} {replied : Bool} {buffe
   reply-is : r .reply ≡ length (first i s (stateIn l) .outcome .reply)
   reply-is = ap (λ (a : Answer). a .reply) answer-is
 
-  fuel-left : ℕ
-  fuel-left = x .fuel - 1
+  -- the bytes of the reply are the first of the buffer
+  reply-bytes : take (r .reply) buffer′ ≡ first i s (stateIn l) .outcome .reply
+  unfolding replyBuffer
+  reply-bytes =
+      let o = request-call i s 1024 (length buffer) l .outcome in
+      ap (take (r .reply)) (p .reply)
+      ∙ take-at (o .reply) (replicate (length buffer - length (o .reply)) 0) (r .reply) (sym (ap (λ (a : Answer). a .reply) (p .answer)))
+      ∙ ap (λ (c : Called). c .outcome .reply) at-room
+      ∙ ap (λ (c : Outcome). c .reply) (call-outcome i s l fit)
 
-  one-more : x .fuel ≡ suc (x .fuel - 1)
-  one-more = omega (arith, x .enough)
+  one-more : length s ≡ suc (length s - 1)
+  one-more = omega arith
 
-  at-fuel : requests (length s₀) i s₀ (stateIn l₀) ≡ behind (x .replies) (requests (suc (x .fuel - 1)) i s (stateIn l))
-  at-fuel = x .peeled ∙ ap (λ (k : ℕ). behind (x .replies) (requests k i s (stateIn l))) one-more
-
-  stopped : (mark : Mark) (rest : Bytes) → requests (suc (x .fuel - 1)) i s (stateIn l) ≡ stops (markText mark) rest (first i s (stateIn l) .state) → FrameServed i s₀ l₀ replied mark rest l′
-  stopped mark rest e = record {
-    replies = x .replies;
+  stopped : (b : Bool) (t : Bytes) (mark : Mark) (rest : Bytes) → requests (suc (length s - 1)) i s (stateIn l) ≡ stops (markText mark) rest (first i s (stateIn l) .state) → FrameServed i s l b t mark rest l′ b t
+  unfolding requestsLeft hex
+  stopped b t mark rest e = record {
+    replies = [];
     fit = left-fit;
-    told = x .told;
+    told = or-none b;
+    text = sym (append-nil t);
     is =
-        at-fuel ∙ ap (behind (x .replies)) e
-        ∙ (λ z. record { replies = append-nil (x .replies) z; mark = markText mark; rest = rest; state = sym state-left z });
+        ap (λ (k : ℕ). requests k i s (stateIn l)) one-more ∙ e
+        ∙ (λ z. record { replies = []; mark = markText mark; rest = rest; state = sym state-left z });
   }
 
   -- the call returned a number
-  pub serving-number : (r .number ≡ 0 → ⊥) → FrameServed i s₀ l₀ replied (Number (r .number)) [] l′
+  pub serving-number : (b : Bool) (t : Bytes) → (r .number ≡ 0 → ⊥) → FrameServed i s l b t (Number (r .number)) [] l′ b t
   unfolding markText numberText
-  serving-number n =
-      stopped (Number (r .number)) []
-      (peel-number (x .fuel - 1) i s (stateIn l) (λ e. n (number-is ∙ e))
+  serving-number b t n =
+      stopped b t (Number (r .number)) []
+      (peel-number (length s - 1) i s (stateIn l) (λ e. n (number-is ∙ e))
       ∙ ap (λ (k : ℕ). stops (bytes "!" ++ digits k) [] (first i s (stateIn l) .state)) (sym number-is))
 
   -- the call waits for more bytes
-  pub serving-waits : r .number ≡ 0 → r .used ≡ 0 → FrameServed i s₀ l₀ replied NoMark s l′
+  pub serving-waits : (b : Bool) (t : Bytes) → r .number ≡ 0 → r .used ≡ 0 → FrameServed i s l b t NoMark s l′ b t
   unfolding markText
-  serving-waits n u = stopped NoMark s (peel-waits (x .fuel - 1) i s (stateIn l) (sym number-is ∙ n) (sym used-is ∙ u))
+  serving-waits b t n u = stopped b t NoMark s (peel-waits (length s - 1) i s (stateIn l) (sym number-is ∙ n) (sym used-is ∙ u))
 
   -- the call used bytes
   module _ (n : r .number ≡ 0) (u : r .used ≡ 0 → ⊥) {s′ : Bytes} (left : s′ ≡ cond (closes s (readRequest 1024 s)) [] (drop (r .used) s)) where
-    shorter : (b : Bool) → length (cond b [] (drop (r .used) s)) ≤ x .fuel - 1
+    shorter : (c : Bool) → length (cond c [] (drop (r .used) s)) ≤ length s - 1
     shorter true = omega arith
-    shorter false = omega (arith, length-drop (r .used) s, x .enough)
+    shorter false = omega (arith, length-drop (r .used) s, u)
 
-    going : (replied′ : Bool) → replied′ ≡ some? (x .replies ++ first i s (stateIn l) .outcome .reply) → Serving i s₀ l₀ replied′ s′ l′
-    going replied′ t = record {
-      fuel = x .fuel - 1;
-      replies = x .replies ++ first i s (stateIn l) .outcome .reply;
+    rest-is : cond (closes s (readRequest 1024 s)) [] (drop (first i s (stateIn l) .outcome .used) s) ≡ s′
+    rest-is = ap (λ (k : ℕ). cond (closes s (readRequest 1024 s)) [] (drop k s)) (sym used-is) ∙ sym left
+
+    pub serving-used : (b : Bool) (t : Bytes) {b′ : Bool} {t′ : Bytes} → b′ ≡ orSome b (take (r .reply) buffer′) → t′ ≡ t ++ hex (take (r .reply) buffer′) → Serving i s l b t s′ l′ b′ t′
+    unfolding requestsLeft
+    serving-used b t e f = record {
+      replies = take (r .reply) buffer′;
       fit = left-fit;
-      enough = rw left (shorter (closes s (readRequest 1024 s)));
-      told = t;
-      peeled =
-          at-fuel
-          ∙ ap (behind (x .replies)) (peel-used (x .fuel - 1) i s (stateIn l) (sym number-is ∙ n) (λ e. u (used-is ∙ e)))
-          ∙ (λ z. behind (x .replies) (behind (first i s (stateIn l) .outcome .reply) (requests (x .fuel - 1) i (rest-is z) (sym state-left z))))
-          ∙ ap (λ (b : Bytes). record { replies = b; mark = later .mark; rest = later .rest; state = later .state }) (sym (append-assoc (x .replies) (first i s (stateIn l) .outcome .reply) (later .replies)));
+      told = e;
+      text = f;
+      is =
+          ap (λ (k : ℕ). requests k i s (stateIn l)) one-more
+          ∙ peel-used (length s - 1) i s (stateIn l) (sym number-is ∙ n) (λ z. u (used-is ∙ z))
+          ∙ (λ z. behind (sym reply-bytes z) (requests (length s - 1) i (rest-is z) (sym state-left z)))
+          ∙ ap (behind (take (r .reply) buffer′)) (fuel-same (length s - 1) (length s′) i s′ (stateIn l′) below (rw left (shorter (closes s (readRequest 1024 s)))) (omega arith));
     }
-      where
-        rest-is : cond (closes s (readRequest 1024 s)) [] (drop (first i s (stateIn l) .outcome .used) s) ≡ s′
-        rest-is = ap (λ (k : ℕ). cond (closes s (readRequest 1024 s)) [] (drop k s)) (sym used-is) ∙ sym left
 
-        later : Frame
-        later = requests (x .fuel - 1) i s′ (stateIn l′)
+    reply-length : length (take (r .reply) buffer′) ≡ r .reply
+    reply-length = ap length reply-bytes ∙ sym reply-is
 
-    pub serving-replied : 0 < r .reply → Serving i s₀ l₀ true s′ l′
-    serving-replied h = going true (some-more (x .replies) (first i s (stateIn l) .outcome .reply) (omega (arith, reply-is)))
+    pub told-some : (b : Bool) → 0 < r .reply → true ≡ orSome b (take (r .reply) buffer′)
+    told-some b h = some-more b (take (r .reply) buffer′) (omega (arith, reply-length))
 
-    pub serving-silent : r .reply ≡ 0 → Serving i s₀ l₀ replied s′ l′
-    serving-silent h = going replied (x .told ∙ none-more (x .replies) (first i s (stateIn l) .outcome .reply) (sym reply-is ∙ h))
+    pub told-none : (b : Bool) → r .reply ≡ 0 → b ≡ orSome b (take (r .reply) buffer′)
+    told-none b h = none-more b (take (r .reply) buffer′) (reply-length ∙ h)
 
 -- A SESSION ABOVE 15 gets 1, and holds nothing
 pub no-session : (fuel i : ℕ) (s : Bytes) (st : State) → 16 ≤ i → requests (suc fuel) i s st ≡ stops (bytes "!1") [] st

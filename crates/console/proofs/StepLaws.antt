@@ -5,24 +5,29 @@ use native.Mathlib.Omega.{arith}
 use mathlib.Core.Path.{_≡_, refl, sym, ap, _∙_}
 use mathlib.Core.Bool.{Bool, true, false, cond}
 use mathlib.Core.List.{List, [], _∷_, _++_}
+use mir.Val.{Fits}
+use mir.Syntax.{w64}
 use lib.Dec.{eqb, leb, ltb}
-use lib.ListN.{length, drop, length-drop, drop-of-length-le}
+use lib.ListN.{length, take, drop, length-drop, drop-of-length-le}
 use lib.Seq.{drop-length, drop-drop}
 use borrow.Author.Tests.{le-leb, lt-leb, lt-ltb, le-ltb, ltb-true, ltb-false, leb-true, leb-false, eq-eqb, ne-eqb, eqb-true, eqb-false}
 use Rattle.key.specs.Bytes.{Bytes}
 use Rattle.resp.specs.Request.{readRequest}
 use Rattle.server.specs.declared.Answer.{Answer}
 use Rattle.calls.specs.Calls.{Lent, valid, RequestPromise}
-use Rattle.calls.specs.Frames.{closes}
+use Rattle.calls.specs.Frames.{closes, hex}
 use Rattle.console.specs.declared.pieces.Mark.{Mark}
 use Rattle.console.specs.declared.pieces.Mark.the-variants.{NoMark, Number}
 use Rattle.console.specs.declared.step.Step.{Step}
 use Rattle.console.specs.declared.step.Step.the-variants.{Refused, Waits, Used}
-use Rattle.console.specs.Served.{Serving, FrameServed}
-use Rattle.console.specs.Steps.{doneWith, stepOf, repliedAfter, StepPromise, Stepping, FrameEnded}
+use Rattle.console.specs.Pieces.{MarkFits}
+use Rattle.console.specs.Served.{Serving, FrameServed, orSome}
+use Rattle.console.specs.declared.serve.Progress.{Progress}
+use Rattle.console.specs.Steps.{doneWith, stepOf, repliedAfter, StepPromise, Stepping, Reached, Paused, Over, SomeServed, Serves}
+use Rattle.console.specs.Page.{Added, ReplyFits}
 use Rattle.writing.proofs.Lent.{rest}
 use Rattle.console.proofs.LineLaws.{lent-is}
-use Rattle.console.proofs.ServedLaws.{serving-start, serving-end, serving-number, serving-waits, serving-replied, serving-silent}
+use Rattle.console.proofs.ServedLaws.{serving-start, serving-end, serving-last, serving-more, serving-number, serving-waits, serving-used, told-some, told-none, reply-short}
 
 -- WHAT IS DONE WITH
 pub done-all : (s : Bytes) {used : ℕ} → length s ≤ used → length s ≡ doneWith s used
@@ -112,71 +117,112 @@ done-within s used nz h = go (leb (length s) used) (closes s (readRequest 1024 s
     go false false t = (positive used nz, omega (arith, leb-false (length s) used t))
 
 -- THE LOOP over the bytes of a frame
-pub stepping-start : (i : ℕ) (held : Bytes) (l : Lent) → valid l ≡ true → Stepping i held l false 0 l
-stepping-start i held l ok = record { within = omega arith; serving = serving-start i held l ok }
+pub stepping-start : (i : ℕ) (held : Bytes) (from₀ : ℕ) (replied₀ : Bool) (filled₀ : ℕ) (page : Bytes) (l : Lent) {table : List ℕ} {buffer : Bytes} → Serves i held from₀ filled₀ page table buffer → Stepping i held from₀ replied₀ filled₀ page l from₀ replied₀ filled₀ page l
+stepping-start i held from₀ replied₀ filled₀ page l x = record {
+  within = x .start;
+  onward = omega arith;
+  ahead = λ h. absurd (omega arith);
+  inside = omega (arith, x .free);
+  size = refl;
+  served = λ ok. serving-start i (drop from₀ held) l replied₀ (take filled₀ page) ok;
+}
 
-pub stepping-end : {i from : ℕ} {held : Bytes} {l₀ l : Lent} {replied : Bool} → Stepping i held l₀ replied from l → i < 16 → length held ≤ from → FrameEnded i held l₀ (record { replied = replied; mark = NoMark; from = from }) l
-stepping-end {i} {from} {held} {l₀} {l} {replied} x h all =
-    let none : drop from held ≡ [] = drop-of-length-le held {i = from} all in
-    record { within = x .within; served = rw none (serving-end (x .serving) h none) }
+module _ {i from filled : ℕ} {held page page′ : Bytes} {from₀ filled₀ : ℕ} {replied₀ : Bool} {l l′ : Lent} {replied : Bool} (x : Stepping i held from₀ replied₀ filled₀ page l from replied filled page′ l′) where
+  -- the page is full
+  pub stepping-full : filled₀ + 65536 ≤ length page → length page′ - filled < 65536 → SomeServed i held from₀ replied₀ filled₀ page l (record { from = from; replied = replied; filled = filled; full = true; mark = NoMark }) page′ l′
+  unfolding Reached MarkFits
+  stepping-full free full = record {
+    within = x .within;
+    inside = x .inside;
+    size = x .size;
+    mark = tt;
+    reached = record { ahead = x .ahead (omega (arith, x .size, x .inside)); served = x .served };
+  }
 
-module _ {i from : ℕ} {held buffer buffer′ : Bytes} {l₀ l l′ : Lent} {replied : Bool} {r : Step} (x : Stepping i held l₀ replied from l) (more : from < length held) (room : length buffer ≡ 32768) (p : StepPromise i (rest from held) buffer l r buffer′ l′) where
-  at-drop : StepPromise i (drop from held) buffer l r buffer′ l′
-  at-drop = rw (lent-is from held) at p
+  over : (from′ : ℕ) (mark : Mark) (l″ : Lent) → MarkFits mark → from′ ≤ length held → (valid l′ ≡ true → FrameServed i (drop from held) l′ replied (take filled page′) mark (drop from′ held) l″ replied (take filled page′)) → SomeServed i held from₀ replied₀ filled₀ page l (record { from = from′; replied = replied; filled = filled; full = false; mark = mark }) page′ l″
+  unfolding Reached
+  over from′ mark l″ fits h f = record {
+    within = h;
+    inside = x .inside;
+    size = x .size;
+    mark = fits;
+    reached = record { served = λ ok. let y = x .served ok in serving-last y (f (y .fit)) };
+  }
 
-  some-bytes : 0 < length (drop from held)
-  some-bytes = omega (arith, length-drop from held)
+  -- no bytes are left
+  pub stepping-end : i < 16 → length held ≤ from → SomeServed i held from₀ replied₀ filled₀ page l (record { from = from; replied = replied; filled = filled; full = false; mark = NoMark }) page′ l′
+  unfolding MarkFits
+  stepping-end h all =
+      let none : drop from held ≡ [] = drop-of-length-le held {i = from} all in
+      over from NoMark l′ tt (x .within) (λ ok. rw none (serving-end l′ replied (take filled page′) ok h))
 
-  pub stepping-refused : {n : ℕ} → r ≡ Refused n → FrameEnded i held l₀ (record { replied = replied; mark = Number n; from = length held }) l′
-  stepping-refused {n} e =
-      let q = at-drop in
-      let t = refused-told (drop from held) (q .answer) n (sym e ∙ q .is) in
-      let f = serving-number (x .serving) some-bytes room (q .call) (t .1) in
-      record { within = omega arith; served = rw (drop-length held) (rw (t .0) at f) }
+  -- one more step
+  module _ {buffer buffer′ : Bytes} {l″ : Lent} {r : Step} (below : i < 16) (more : from < length held) (room : length buffer ≡ 32768) (p : StepPromise i (rest from held) buffer l′ r buffer′ l″) where
+    at-drop : StepPromise i (drop from held) buffer l′ r buffer′ l″
+    at-drop = rw (lent-is from held) at p
 
-  pub stepping-waits : r ≡ Waits → FrameEnded i held l₀ (record { replied = replied; mark = NoMark; from = from }) l′
-  stepping-waits e =
-      let q = at-drop in
-      let t = waits-told (drop from held) (q .answer) (sym e ∙ q .is) in
-      record { within = x .within; served = serving-waits (x .serving) some-bytes room (q .call) (t .0) (t .1) }
+    some-bytes : 0 < length (drop from held)
+    some-bytes = omega (arith, length-drop from held)
 
-  module _ {k n : ℕ} (e : r ≡ Used k n) where
-    used : UsedTold (drop from held) (at-drop .answer) k n
-    used = used-told (drop from held) (at-drop .answer) k n (sym e ∙ at-drop .is)
+    pub stepping-refused : {n : ℕ} → r ≡ Refused n → Fits w64 n → SomeServed i held from₀ replied₀ filled₀ page l (record { from = length held; replied = replied; filled = filled; full = false; mark = Number n }) page′ l″
+    unfolding MarkFits
+    stepping-refused {n} e fits =
+        let q = at-drop in
+        let t = refused-told (drop from held) (q .answer) n (sym e ∙ q .is) in
+        over (length held) (Number n) l″ (omega (arith, fits .fits)) (omega arith)
+        (λ ok. rw (drop-length held) (rw (t .0) at (serving-number below ok some-bytes room (q .call) replied (take filled page′) (t .1))))
 
-    bounds : (0 < doneWith (drop from held) (at-drop .answer .used)) × (doneWith (drop from held) (at-drop .answer .used) ≤ length (drop from held))
-    bounds = done-within (drop from held) (at-drop .answer .used) (used .some-used) some-bytes
+    pub stepping-waits : r ≡ Waits → SomeServed i held from₀ replied₀ filled₀ page l (record { from = from; replied = replied; filled = filled; full = false; mark = NoMark }) page′ l″
+    unfolding MarkFits
+    stepping-waits e =
+        let q = at-drop in
+        let t = waits-told (drop from held) (q .answer) (sym e ∙ q .is) in
+        over from NoMark l″ tt (x .within) (λ ok. serving-waits below ok some-bytes room (q .call) replied (take filled page′) (t .0) (t .1))
 
-    pub step-forward : 0 < k
-    step-forward = omega (arith, bounds .0, used .is)
+    module _ {k n : ℕ} (e : r ≡ Used k n) where
+      used : UsedTold (drop from held) (at-drop .answer) k n
+      used = used-told (drop from held) (at-drop .answer) k n (sym e ∙ at-drop .is)
 
-    pub step-inside : from + k ≤ length held
-    step-inside = omega (arith, bounds .1, used .is, length-drop from held)
+      bounds : (0 < doneWith (drop from held) (at-drop .answer .used)) × (doneWith (drop from held) (at-drop .answer .used) ≤ length (drop from held))
+      bounds = done-within (drop from held) (at-drop .answer .used) (used .some-used) some-bytes
 
-    left-is : drop (from + k) held ≡ cond (closes (drop from held) (readRequest 1024 (drop from held))) [] (drop (at-drop .answer .used) (drop from held))
-    left-is = sym (drop-drop k from held) ∙ ap (λ (j : ℕ). drop j (drop from held)) (sym (used .is)) ∙ left-behind (drop from held) (at-drop .answer .used)
+      pub step-forward : 0 < k
+      step-forward = omega (arith, bounds .0, used .is)
 
-    pub stepping-replied : 0 < n → Stepping i held l₀ true (from + k) l′
-    stepping-replied h =
-        record { within = step-inside; serving = serving-replied (x .serving) some-bytes room (at-drop .call) (used .number) (used .some-used) left-is (omega (arith, used .reply)) }
+      pub step-inside : from + k ≤ length held
+      step-inside = omega (arith, bounds .1, used .is, length-drop from held)
 
-    pub stepping-silent : n ≡ 0 → Stepping i held l₀ replied (from + k) l′
-    stepping-silent h =
-        record { within = step-inside; serving = serving-silent (x .serving) some-bytes room (at-drop .call) (used .number) (used .some-used) left-is (used .reply ∙ h) }
+      -- the reply stands in the buffer
+      pub reply-fits : 65536 ≤ length page′ - filled → length buffer′ ≡ length buffer → ReplyFits n buffer′ filled page′
+      reply-fits free same = record { there = omega (arith, reply-within); room = omega (arith, reply-within) }
+        where
+          reply-within : n ≤ length buffer
+          reply-within = omega (arith, used .reply, reply-short (at-drop .call) same)
 
-    pub stepping-used : {b : Bool} → b ≡ repliedAfter replied n → Stepping i held l₀ b (from + k) l′
-    unfolding repliedAfter
-    stepping-used {b} t = go (decLe 1 n)
-      where
-        go : Dec (1 ≤ n) → Stepping i held l₀ b (from + k) l′
-        go (yes h) =
-            let some-reply : 0 < n = omega arith in
-            let told : repliedAfter replied n ≡ true = rw (lt-ltb 0 n some-reply) in
-            rw (t, told) (stepping-replied some-reply)
-        go (no h) =
-            let none : n ≤ 0 = omega arith in
-            let told : repliedAfter replied n ≡ replied = rw (le-ltb 0 n none) in
-            rw (t, told) (stepping-silent (omega arith))
+      left-is : drop (from + k) held ≡ cond (closes (drop from held) (readRequest 1024 (drop from held))) [] (drop (at-drop .answer .used) (drop from held))
+      left-is = sym (drop-drop k from held) ∙ ap (λ (j : ℕ). drop j (drop from held)) (sym (used .is)) ∙ left-behind (drop from held) (at-drop .answer .used)
+
+      pub stepping-used : {b : Bool} {filled′ : ℕ} {page″ : Bytes} → Added (hex (take n buffer′)) filled page′ filled′ page″ → b ≡ repliedAfter replied n → Stepping i held from₀ replied₀ filled₀ page l (from + k) b filled′ page″ l″
+      unfolding repliedAfter
+      stepping-used {b} {filled′} {page″} a told = record {
+        within = step-inside;
+        onward = omega (arith, x .onward);
+        ahead = λ h. omega (arith, x .onward, step-forward);
+        inside = omega (arith, a .within, x .size);
+        size = a .size ∙ x .size;
+        served = λ ok.
+            let y = x .served ok in
+            serving-more y (serving-used below (y .fit) some-bytes room (at-drop .call) (used .number) (used .some-used) left-is replied (take filled page′)
+            (told ∙ after-is (y .fit) (decLe 1 n)) (a .front ∙ ap (λ (m : ℕ). take filled page′ ++ hex (take m buffer′)) (sym (used .reply))));
+      }
+        where
+          after-is : valid l′ ≡ true → Dec (1 ≤ n) → repliedAfter replied n ≡ orSome replied (take (at-drop .answer .reply) buffer′)
+          after-is ok (yes h) =
+              let some-reply : 0 < n = omega arith in
+              rw (lt-ltb 0 n some-reply) (told-some below ok some-bytes room (at-drop .call) (used .number) (used .some-used) left-is replied (omega (arith, used .reply)))
+          after-is ok (no h) =
+              let none : n ≤ 0 = omega arith in
+              rw (le-ltb 0 n none) (told-none below ok some-bytes room (at-drop .call) (used .number) (used .some-used) left-is replied (omega (arith, used .reply)))
 
 -- WHETHER A REPLY BYTE WAS WRITTEN
 pub replied-more : (replied : Bool) {n : ℕ} → 0 < n → true ≡ repliedAfter replied n

@@ -1,5 +1,5 @@
 -- The pieces of an output line, and how they follow each other.
-use Prim.Native.Nat.{ℕ, _+_, _/_, _%_}
+use Prim.Native.Nat.{ℕ, _+_, _/_, _%_, _^_, _<_}
 use mathlib.Core.Bool.{Bool, true, false}
 use mathlib.Core.List.{List, [], _∷_, _++_, map}
 use Rattle.key.specs.Bytes.{Bytes, bytes, concat}
@@ -21,6 +21,12 @@ unfoldable pub markText : Mark → Bytes
 markText NoMark = []
 markText (Number n) = numberText n
 markText Dropped = bytes "!"
+
+-- a mark whose number is one of 64 bits
+unfoldable pub MarkFits : Mark → Type 0
+MarkFits NoMark = Unit {0}
+MarkFits (Number n) = n < 2 ^ 64
+MarkFits Dropped = Unit {0}
 
 -- the mark, or `-` where nothing stands in front of it and there is none
 unfoldable pub markOrDash : Bool → Mark → Bytes

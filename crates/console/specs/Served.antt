@@ -1,8 +1,8 @@
 -- The requests of a frame on lent state: what the frame's calls leave, one after another.
 use Prim.Native.Nat.{ℕ, zero, suc, _≤_}
-use mathlib.Core.Bool.{Bool, true, cond}
+use mathlib.Core.Bool.{Bool, true, false, cond}
 use mathlib.Core.List.{List, [], _∷_, _++_}
-use mathlib.Core.Option.{some}
+use mathlib.Core.Option.{Option}
 use mathlib.Core.Path.{_≡_}
 use lib.Dec.{leb}
 use lib.ListN.{length}
@@ -13,7 +13,7 @@ use Rattle.calls.specs.Calls.{Lent, valid, storeOf, sessionOf}
 use Rattle.calls.specs.Frames.{Frame, requests, hex, Given, Console, answerGiven}
 use Rattle.console.specs.declared.pieces.Mark.{Mark}
 use Rattle.console.specs.declared.pieces.Mark.the-variants.{Dropped}
-use Rattle.console.specs.Pieces.{headText, endText, markText, some?}
+use Rattle.console.specs.Pieces.{markText, some?}
 
 -- f i, f (i + 1), ..: n of them
 unfoldable pub listed : {A : Type 0} → (ℕ → A) → ℕ → ℕ → List A
@@ -28,30 +28,37 @@ stateIn l = record { store = storeOf l; sessions = listed (λ (i : ℕ). session
 abbrev pub behind : Bytes → Frame → Frame
 behind r f = record { replies = r ++ f .replies; mark = f .mark; rest = f .rest; state = f .state }
 
--- WITHIN THE LOOP over the requests of a frame: `s₀` and `l₀` are the bytes and the state at its start, `s` and `l` those that are left;
--- `replied` says whether a reply byte was written
-pub record Serving (i : ℕ) (s₀ : Bytes) (l₀ : Lent) (replied : Bool) (s : Bytes) (l : Lent) : Type 0 where
-  pub fuel : ℕ
-  pub replies : Bytes
-  pub fit : valid l ≡ true
-  pub enough : length s ≤ fuel
-  pub told : replied ≡ some? replies
-  pub peeled : requests (length s₀) i s₀ (stateIn l₀) ≡ behind replies (requests fuel i s (stateIn l))
+-- the requests that are left of a frame
+unfoldable pub requestsLeft : ℕ → Bytes → Lent → Frame
+requestsLeft i s l = requests (length s) i s (stateIn l)
 
--- BEHIND THE LOOP: the frame's replies (whether there are any), its mark and its rest, and the state that is left
-pub record FrameServed (i : ℕ) (s₀ : Bytes) (l₀ : Lent) (replied : Bool) (mark : Mark) (rest : Bytes) (l : Lent) : Type 0 where
+-- whether a reply byte was written, with more replies
+unfoldable pub orSome : Bool → Bytes → Bool
+orSome true replies = true
+orSome false replies = some? replies
+
+-- SOME REQUESTS of a frame: `s` and `l` are the bytes and the state in front of them, `s′` and `l′` those that are left; `b` says whether a reply
+-- byte was written, and `t` is the output
+pub record Serving (i : ℕ) (s : Bytes) (l : Lent) (b : Bool) (t : Bytes) (s′ : Bytes) (l′ : Lent) (b′ : Bool) (t′ : Bytes) : Type 0 where
   pub replies : Bytes
-  pub fit : valid l ≡ true
-  pub told : replied ≡ some? replies
-  pub is : requests (length s₀) i s₀ (stateIn l₀) ≡ record { replies = replies; mark = markText mark; rest = rest; state = stateIn l }
+  pub fit : valid l′ ≡ true
+  pub told : b′ ≡ orSome b replies
+  pub text : t′ ≡ t ++ hex replies
+  pub is : requestsLeft i s l ≡ behind replies (requestsLeft i s′ l′)
+
+-- ALL REQUESTS that are left: their mark, the rest, and the state behind them
+pub record FrameServed (i : ℕ) (s : Bytes) (l : Lent) (b : Bool) (t : Bytes) (mark : Mark) (rest : Bytes) (l′ : Lent) (b′ : Bool) (t′ : Bytes) : Type 0 where
+  pub replies : Bytes
+  pub fit : valid l′ ≡ true
+  pub told : b′ ≡ orSome b replies
+  pub text : t′ ≡ t ++ hex replies
+  pub is : requestsLeft i s l ≡ record { replies = replies; mark = markText mark; rest = rest; state = stateIn l′ }
 
 -- the mark of a frame whose rest was kept or dropped
 unfoldable pub markAfter : Mark → Bytes → Mark
 markAfter mark rest = cond (leb (length rest) 4096) mark Dropped
 
--- THE ANSWER to a frame: the pieces that are written for it make the line that the definition says, and the console after it is the definition's
-pub record Answered (g : Given) (c : Console) (replied : Bool) (mark : Mark) (c′ : Console) : Type 0 where
-  pub replies : Bytes
-  pub told : replied ≡ some? replies
-  pub out : answerGiven (some g) c .out ++ 10 ∷ [] ≡ headText (g .session) ++ (hex replies ++ endText replied mark)
-  pub console : answerGiven (some g) c .console ≡ c′
+-- THE ANSWER to a line: behind the output `t` stands the line that the definition says, and the console after it is the definition's
+pub record Answered (g : Option Given) (c : Console) (t : Bytes) (c′ : Console) (t′ : Bytes) : Type 0 where
+  pub out : t′ ≡ t ++ (answerGiven g c .out ++ 10 ∷ [])
+  pub console : answerGiven g c .console ≡ c′

@@ -1,17 +1,18 @@
 -- One request of a frame, by what its call answered.
-use Prim.Native.Nat.{ℕ, _≤_, _<_}
-use mathlib.Core.Bool.{Bool, true, cond}
+use Prim.Native.Nat.{ℕ, _+_, _≤_, _<_}
+use mathlib.Core.Bool.{Bool, true, false, cond}
 use mathlib.Core.List.{List}
 use mathlib.Core.Path.{_≡_}
 use lib.Dec.{eqb, leb, ltb}
-use lib.ListN.{length, drop}
+use lib.ListN.{length, take, drop}
 use Rattle.key.specs.Bytes.{Bytes}
 use Rattle.resp.specs.Request.{readRequest}
 use Rattle.server.specs.declared.Answer.{Answer}
-use Rattle.calls.specs.Calls.{Lent, valid, lentOf, RequestPromise}
+use Rattle.calls.specs.Calls.{Lent, valid, RequestPromise}
 use Rattle.calls.specs.Frames.{closes}
+use Rattle.console.specs.Pieces.{MarkFits}
 use Rattle.console.specs.Served.{Serving, FrameServed}
-use Rattle.console.specs.declared.step.Ended.{Ended}
+use Rattle.console.specs.declared.serve.Progress.{Progress}
 use Rattle.console.specs.declared.step.Step.{Step}
 use Rattle.console.specs.declared.step.Step.the-variants.{Refused, Waits, Used}
 
@@ -33,20 +34,42 @@ pub record StepPromise (i : ℕ) (s buffer : Bytes) (l : Lent) (r : Step) (buffe
 unfoldable pub repliedAfter : Bool → ℕ → Bool
 repliedAfter replied n = cond (ltb 0 n) true replied
 
--- WITHIN THE LOOP over the bytes `held` of a frame: `from` is the place of the first request that is left
-pub record Stepping (i : ℕ) (held : Bytes) (l₀ : Lent) (replied : Bool) (from : ℕ) (l : Lent) : Type 0 where
+-- WITHIN THE LOOP over the bytes `held` of a frame: `from` is the place of the first request that is left, and `filled` bytes of the page are in use
+pub record Stepping (i : ℕ) (held : Bytes) (from₀ : ℕ) (replied₀ : Bool) (filled₀ : ℕ) (page : Bytes) (l : Lent) (from : ℕ) (replied : Bool) (filled : ℕ) (page′ : Bytes) (l′ : Lent) : Type 0 where
   pub within : from ≤ length held
-  pub serving : Serving i held l₀ replied (drop from held) l
+  pub onward : from₀ ≤ from
+  pub ahead : filled₀ < filled → from₀ < from
+  pub inside : filled ≤ length page
+  pub size : length page′ ≡ length page
+  pub served : valid l ≡ true → Serving i (drop from₀ held) l replied₀ (take filled₀ page) (drop from held) l′ replied (take filled page′)
 
--- BEHIND THE LOOP
-pub record FrameEnded (i : ℕ) (held : Bytes) (l₀ : Lent) (e : Ended) (l : Lent) : Type 0 where
-  pub within : e .from ≤ length held
-  pub served : FrameServed i held l₀ (e .replied) (e .mark) (drop (e .from) held) l
+-- the page is full before the frame is over: some requests were served
+pub record Paused (i : ℕ) (held : Bytes) (from₀ : ℕ) (replied₀ : Bool) (filled₀ : ℕ) (page : Bytes) (l : Lent) (r : Progress) (page′ : Bytes) (l′ : Lent) : Type 0 where
+  pub ahead : from₀ < r .from
+  pub served : valid l ≡ true → Serving i (drop from₀ held) l replied₀ (take filled₀ page) (drop (r .from) held) l′ (r .replied) (take (r .filled) page′)
 
--- what the loop is lent: a session below 16, a frame and the rest in front of it, 1,024 argument places, 32,768 reply bytes and valid state
-pub record Serves (i : ℕ) (held : Bytes) (table : List ℕ) (buffer : Bytes) (l : Lent) : Type 0 where
+-- the frame is over
+pub record Over (i : ℕ) (held : Bytes) (from₀ : ℕ) (replied₀ : Bool) (filled₀ : ℕ) (page : Bytes) (l : Lent) (r : Progress) (page′ : Bytes) (l′ : Lent) : Type 0 where
+  pub served : valid l ≡ true → FrameServed i (drop from₀ held) l replied₀ (take filled₀ page) (r .mark) (drop (r .from) held) l′ (r .replied) (take (r .filled) page′)
+
+-- by whether the page is full
+unfoldable pub Reached : Bool → ℕ → Bytes → ℕ → Bool → ℕ → Bytes → Lent → Progress → Bytes → Lent → Type 0
+Reached true i held from₀ replied₀ filled₀ page l r page′ l′ = Paused i held from₀ replied₀ filled₀ page l r page′ l′
+Reached false i held from₀ replied₀ filled₀ page l r page′ l′ = Over i held from₀ replied₀ filled₀ page l r page′ l′
+
+-- THE CONTRACT of serving: `from₀`, `replied₀` and `filled₀` say how far the frame had come, `r` how far it has come now
+pub record SomeServed (i : ℕ) (held : Bytes) (from₀ : ℕ) (replied₀ : Bool) (filled₀ : ℕ) (page : Bytes) (l : Lent) (r : Progress) (page′ : Bytes) (l′ : Lent) : Type 0 where
+  pub within : r .from ≤ length held
+  pub inside : r .filled ≤ length page
+  pub size : length page′ ≡ length page
+  pub mark : MarkFits (r .mark)
+  pub reached : Reached (r .full) i held from₀ replied₀ filled₀ page l r page′ l′
+
+-- what serving is lent: a session below 16, a frame and the rest in front of it, room for a reply on the page, 1,024 argument places and 32,768 reply bytes
+pub record Serves (i : ℕ) (held : Bytes) (from₀ filled₀ : ℕ) (page : Bytes) (table : List ℕ) (buffer : Bytes) : Type 0 where
   pub session : i < 16
   pub size : length held ≤ 8192
+  pub start : from₀ ≤ length held
+  pub free : filled₀ + 65536 ≤ length page
   pub places : length table ≡ 2048
   pub room : length buffer ≡ 32768
-  pub fit : valid l ≡ true

@@ -1,5 +1,4 @@
 // One request of a frame: what its call answered, as the loop over the frame's requests goes on.
-use crate::pieces::Mark;
 use crate::quit;
 use server::Answer;
 ghost use mathlib.Core.Path.{_≡_};
@@ -11,13 +10,6 @@ pub enum Step {
     Refused(u64),
     Waits,
     Used(usize, usize),
-}
-
-// How a frame ends: whether a reply byte was written, its mark, and the place of its rest.
-pub struct Ended {
-    pub replied: bool,
-    pub mark: Mark,
-    pub from: usize,
 }
 
 // How many of the bytes are done with: all of them where the request drops the rest.

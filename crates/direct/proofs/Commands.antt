@@ -15,7 +15,7 @@ use Rattle.number.specs.Decimal.{decimal}
 use Rattle.writing.specs.declared.Put.{Put}
 use Rattle.writing.specs.declared.Put.the-variants.{Wrote, Full}
 use Rattle.writing.specs.Puts.{Puts, Adds}
-use lib.IntN.{ℤ, pos}
+use lib.IntN.{ℤ, pos, _+ℤ_}
 use Rattle.writing.proofs.Puts.{same-text, then-puts, was-wrote, was-full, length-kept}
 use Rattle.resp.specs.Reply.{Reply, Integer, ok, crlf, encode}
 use Rattle.memtable.specs.declared.open.Left.{Left}
@@ -26,11 +26,10 @@ use Rattle.memtable.specs.Rows.{Valid, RoomForOne, valueIf, bytesLeft}
 use Rattle.batch.specs.declared.Verdict.{Verdict}
 use Rattle.server.specs.declared.Answer.{Answer}
 use Rattle.number.specs.declared.Number.{Number}
-use Rattle.reading.specs.declared.Raised.{Raised}
-use Rattle.reading.specs.declared.Raised.the-variants.{To, NotInteger, Overflow}
-use Rattle.reading.specs.Raise.{raisedEffect}
-use Rattle.server.specs.declared.errors.Fixed.the-variants.{Ok}
-use Rattle.server.specs.declared.errors.Fixed.the-variants as fixed
+use Rattle.number.specs.declared.Number.the-variants.{Int, Bad}
+use Rattle.number.specs.Number.{numberOf}
+use Rattle.reading.proofs.Counters.{raised-bad, raised-over, raised-to}
+use Rattle.server.specs.declared.errors.Fixed.the-variants.{Ok, NotInteger, Overflow}
 use Rattle.direct.specs.Reading.{lastReader, LiveIs}
 use Rattle.server.specs.Command.{Effect, put, pairsOf, live, held, raised}
 use Rattle.server.specs.Errors.{fixedReply}
@@ -211,22 +210,21 @@ pub runs-live : (w b : List ℕ) (ks : List Key) (used : ℕ) {out out′ : Byte
 runs-live w b ks used l puts r-is valid h c =
     runs-quiet (Integer (pos (live (lastReader w b) ks))) w b used valid h c (same-text (ap (λ (m : ℕ). encode (Integer (pos m))) (sym (l .is))) puts) r-is
 
--- COUNTERS by what they are raised to
-raised-is : (k : Key) (by : ℤ) (w b : List ℕ) (x : Raised) {by′ : ℤ} {h : Number} → h ≡ held (lastReader w b k) → ((j : Key) → raisedEffect j x ≡ raised j by′ h) → by′ ≡ by
-    → raisedEffect k x ≡ raised k by (held (lastReader w b k))
-raised-is k by w b x h-is x-is by-is = x-is k ∙ (λ z. raised k (by-is z) (h-is z))
+-- COUNTERS by the number read and the checked sum
+module _ (k : Key) (by : ℤ) (w b : List ℕ) (used : ℕ) {out : Bytes} {h : Number} (h-is : h ≡ held (lastReader w b k)) {r : Answer} {out′ : Bytes} where
+  raised-as : {e : Effect} {w′ b′ : List ℕ} → raised k by h ≡ e → Runs e used out w b r out′ w′ b′ → Runs (raised k by (held (lastReader w b k))) used out w b r out′ w′ b′
+  raised-as {w′ = w′} {b′} e-is a = subst (λ (f : Effect). Runs f used out w b r out′ w′ b′) (sym e-is ∙ ap (raised k by) h-is) a
 
-module _ (k : Key) (by : ℤ) (w b : List ℕ) (used : ℕ) (x : Raised) {out : Bytes} {by′ : ℤ} {h : Number}
-    (h-is : h ≡ held (lastReader w b k)) (x-is : (j : Key) → raisedEffect j x ≡ raised j by′ h) (by-is : by′ ≡ by) {r : Answer} {out′ : Bytes} where
-  pub raised-runs : {n n′ : ℤ} {w′ b′ : List ℕ} → x ≡ To n → n′ ≡ n → Runs (counted k n′) used out w b r out′ w′ b′ → Runs (raised k by (held (lastReader w b k))) used out w b r out′ w′ b′
-  unfolding counted raisedEffect
-  raised-runs {n} {n′} {w′} {b′} e n-is a =
-      subst (λ (f : Effect). Runs f used out w b r out′ w′ b′) (ap (counted k) n-is ∙ sym (ap (raisedEffect k) e) ∙ raised-is k by w b x h-is x-is by-is) a
+  pub raised-no-integer : h ≡ Bad → Runs (fixedReply NotInteger, []) used out w b r out′ w b → Runs (raised k by (held (lastReader w b k))) used out w b r out′ w b
+  unfolding fixedReply
+  raised-no-integer e a = raised-as (raised-bad k by e) a
 
-  pub raised-no-integer : x ≡ NotInteger → Runs (fixedReply fixed.NotInteger, []) used out w b r out′ w b → Runs (raised k by (held (lastReader w b k))) used out w b r out′ w b
-  unfolding raisedEffect fixedReply
-  raised-no-integer e a = subst (λ (f : Effect). Runs f used out w b r out′ w b) (sym (ap (raisedEffect k) e) ∙ raised-is k by w b x h-is x-is by-is) a
+  -- m and c are n and `by` as the sum reads them
+  module _ {n m c : ℤ} {sum : Number} (is : h ≡ Int n) (m-is : m ≡ n) (c-is : c ≡ by) (sum-is : sum ≡ numberOf (m +ℤ c)) where
+    pub raised-overflow : sum ≡ Bad → Runs (fixedReply Overflow, []) used out w b r out′ w b → Runs (raised k by (held (lastReader w b k))) used out w b r out′ w b
+    unfolding fixedReply
+    raised-overflow e a = raised-as (raised-over k by is m-is c-is sum-is e) a
 
-  pub raised-overflow : x ≡ Overflow → Runs (fixedReply fixed.Overflow, []) used out w b r out′ w b → Runs (raised k by (held (lastReader w b k))) used out w b r out′ w b
-  unfolding raisedEffect fixedReply
-  raised-overflow e a = subst (λ (f : Effect). Runs f used out w b r out′ w b) (sym (ap (raisedEffect k) e) ∙ raised-is k by w b x h-is x-is by-is) a
+    pub raised-runs : {x y : ℤ} {w′ b′ : List ℕ} → sum ≡ Int x → y ≡ x → Runs (counted k y) used out w b r out′ w′ b′ → Runs (raised k by (held (lastReader w b k))) used out w b r out′ w′ b′
+    unfolding counted
+    raised-runs e y-is a = raised-as (raised-to k by is m-is c-is sum-is e ∙ sym (ap (counted k) y-is)) a

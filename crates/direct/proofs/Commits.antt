@@ -10,7 +10,7 @@ use Rattle.memtable.specs.Layout.{storeIn, leaveWords, leaveBytes}
 use Rattle.memtable.specs.Rows.{Valid, RoomForOne}
 use Rattle.direct.specs.Writes.{RoomForAll}
 use Rattle.memtable.proofs.VersionLaws.{length-insert, size-insert}
-use Rattle.memtable.proofs.Written.{words-left-long, bytes-left-long}
+use Rattle.memtable.proofs.LayoutLaws.{words-left-long, bytes-left-long}
 use Rattle.memtable.proofs.Sequence.{Holds, holds-first, holds-valid, holds-store, holds-count, holds-used, holds-last, holds-most-versions, holds-most-bytes, holds-one}
 
 -- of the writes `all` on the store of w₀ and b₀, those before `rest` are committed in w and b, and there is room for the rest

@@ -5,9 +5,9 @@ use crate::replies;
 use crate::room;
 use memtable::commit as store;
 use memtable::open;
+use number::Number;
 use number::decimal;
-use reading::Raised;
-use reading::counter;
+use number::integer;
 use server::Answer;
 use server::errors;
 use server::errors::Fixed;
@@ -205,11 +205,11 @@ pub fn run_counter(
     requires { ⌜ now out ≡ replicate (length (now out)) 0 ⌝ }
     ensures { λ r. ⌜ Runs (raised (now (name .entry)) by (held (lastReader (now (words .entry)) (now (bytes .entry)) (now (name .entry))))) used (now (out .entry)) (now (words .entry)) (now (bytes .entry)) r (now (out .exit)) (now (words .exit)) (now (bytes .exit)) ⌝ }
 {
-    let held = read::held_number(words, bytes, name);
-    let raised = counter::raised_by(held, by);
-    match raised {
-        Raised::To(number) => run_number(name, number, text, used, words, bytes, out),
-        Raised::NotInteger => replies::answer_fixed(Fixed::NotInteger, used, words, bytes, out),
-        Raised::Overflow => replies::answer_fixed(Fixed::Overflow, used, words, bytes, out),
-    }
+    let Number::Int(number) = read::held_number(words, bytes, name) else {
+        return replies::answer_fixed(Fixed::NotInteger, used, words, bytes, out);
+    };
+    let Number::Int(sum) = integer::checked_sum(number, by) else {
+        return replies::answer_fixed(Fixed::Overflow, used, words, bytes, out);
+    };
+    run_number(name, sum, text, used, words, bytes, out)
 }

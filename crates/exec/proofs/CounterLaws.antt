@@ -3,7 +3,7 @@ use Prim.Native.Nat.{ℕ, zero, suc, _+_, _-_, _*_, _/_, _%_, _^_, _≤_, _<_}
 use native.Mathlib.Omega.{arith}
 use mathlib.Core.Path.{_≡_, refl, sym, ap, ap₂, _∙_, subst}
 use mathlib.Core.List.{List, [], _∷_, _++_, append-assoc}
-use lib.IntN.{ℤ, pos, negsuc}
+use lib.IntN.{ℤ, pos, negsuc, _+ℤ_}
 use lib.ListN.{length, getD, take, drop, length-append, length-drop, take-append-drop}
 use lib.Seq.{take-at, drop-at, drop-drop, take-take, take-all, length-take-le}
 use borrow.Author.Tests.{le-leb}
@@ -30,12 +30,13 @@ use Rattle.memtable.specs.Versions.{moved}
 use Rattle.server.specs.Command.{Effect, argument, held, raised}
 use Rattle.own.specs.Own.{ownWrites, Own, readerOf}
 use Rattle.own.proofs.Lists.{by-order}
-use Rattle.reading.specs.declared.Raised.{Raised}
-use Rattle.reading.specs.Raise.{raisedEffect}
+use Rattle.reading.proofs.Counters.{raised-bad, raised-over, raised-to}
 use Rattle.number.specs.declared.Number.{Number}
+use Rattle.number.specs.declared.Number.the-variants.{Int, Bad}
+use Rattle.number.specs.Number.{numberOf}
 use Rattle.exec.specs.declared.Walked.{Walked}
 use Rattle.command.specs.Kinds.{counterEffect}
-use Rattle.exec.specs.Walks.{TextPut, Advanced}
+use Rattle.exec.specs.Walks.{TextPut, CounterSet, CounterError, Advanced}
 use mathlib.Core.Bool.{Bool, true, false, _||_}
 use Rattle.resp.specs.Reply.{Integer, encode}
 use Rattle.memtable.specs.Rows.{versionsIn}
@@ -46,8 +47,7 @@ use Rattle.server.specs.Errors.{fixedReply}
 use Rattle.server.specs.Places.{argumentsAt, PartsIn}
 use Rattle.command.proofs.ArgumentLaws.{argument-is}
 use Rattle.own.proofs.Growing.{part-append, writes-append, own-append}
-use Rattle.own.proofs.LastWrites.{last-one}
-use Rattle.reading.specs.declared.Raised.the-variants.{To, NotInteger, Overflow}
+use Rattle.memtable.proofs.TableLaws.{last-one}
 
 -- one more text, by a writer that was lent the part from n on
 rest-kept : {text entry mid : List ℕ} {n : ℕ} → Written text entry n mid → rest n mid ≡ drop n entry
@@ -87,11 +87,9 @@ decimal-few {z} h = go z h
     go (pos n) h = omega (arith, few-digits 18 n (omega (arith, h .sfits)))
     go (negsuc n) h = omega (arith, few-digits 18 (suc n) (omega (arith, h .sfits)))
 
--- WHAT IT IS RAISED TO
-pub raises : (own : List ℕ) (d : Bytes) (rows : ℕ) (w : List ℕ) (b : Bytes) (s : ℕ) (by : ℤ) {name k : Key} {h : Number} {m : ℤ} (r : Raised)
-    → name ≡ k → h ≡ held (readerOf own d rows w b s name) → m ≡ by → ((x : Key) → raisedEffect x r ≡ raised x m h)
-    → raisedEffect k r ≡ raised k by (held (readerOf own d rows w b s k))
-raises own d rows w b s by {k = k} r k-is h-is m-is e = e k ∙ (λ z. raised k (m-is z) ((h-is ∙ ap (λ (x : Key). held (readerOf own d rows w b s x)) k-is) z))
+-- THE NUMBER READ
+pub holds : (own : List ℕ) (d : Bytes) (rows : ℕ) (w : List ℕ) (b : Bytes) (s : ℕ) {name k : Key} {h : Number} → name ≡ k → h ≡ held (readerOf own d rows w b s name) → h ≡ held (readerOf own d rows w b s k)
+holds own d rows w b s k-is h-is = h-is ∙ ap (λ (x : Key). held (readerOf own d rows w b s x)) k-is
 
 -- THE TEXT
 length-rest : (used : ℕ) (d : Bytes) → length (rest used d) ≡ length d - used
@@ -142,6 +140,58 @@ counter-put p d start {a} {l} {x} {own} {own′} {rows} {r} a-is l-is x-is o =
     subst (λ (t : Option Value). OwnPut own own′ d rows (keyPart p d 2) t r) e
     (subst (λ (t : Key). OwnPut own own′ d rows t (valueOfWord (x + 1) (part start (x + 1 - 1) d)) r) (λ z. part (a-is z) (l-is z) d) o)
 
+-- THE COUNTER SET
+-- the data in use, as `&data[..used]` lends it
+pub lent-used : (used : ℕ) (d : Bytes) → used + 20 ≤ length d → used ≡ length (take used d)
+lent-used used d h = sym (length-take-le used d (omega arith))
+
+pub lent-text : (n : ℤ) (used : ℕ) (d : Bytes) {d′ : Bytes} {e : ℕ} → TextPut n d used d′ e → e ≡ length (take e d′)
+lent-text n used d {d′} {e} t = sym (length-take-le e d′ (t .inside))
+
+-- z is n as the callees read it
+module _ (p : List ℕ) {own : List ℕ} (d : Bytes) (a : Walked) (o : Own own (take (a .used) d) (a .rows)) (key : KeyIn p (take (a .used) d) 2) (room : a .used + 20 ≤ length d)
+    {n z : ℤ} {e : ℕ} {d′ : Bytes} (z-is : z ≡ n) (t : TextPut z d (a .used) d′ e) where
+  front : length (take (a .used) d) ≡ a .used
+  front = length-take-le (a .used) d (omega arith)
+
+  key-same : keyPart p (take e d′) 2 ≡ keyPart p (take (a .used) d) 2
+  key-same = ap (λ (s : Bytes). keyPart p s 2) (t .is) ∙ part-append (getD p 2 0) (getD p 3 0) (take (a .used) d) (decimal z) (key .key-in)
+
+  value-same : part (a .used) (length (take e d′) - a .used) (take e d′) ≡ decimal n
+  value-same =
+      ap (λ (s : Bytes). part (a .used) (length s - a .used) s) (t .is)
+      ∙ ap (take (length (take (a .used) d ++ decimal z) - a .used)) (drop-at (take (a .used) d) (decimal z) (a .used) front)
+      ∙ take-all (length (take (a .used) d ++ decimal z) - a .used) (decimal z) (omega (arith, length-append (take (a .used) d) (decimal z), front))
+      ∙ ap decimal z-is
+
+  writes-same : ownWrites own (take e d′) (a .rows) ≡ ownWrites own (take (a .used) d) (a .rows)
+  writes-same = ap (λ (s : Bytes). ownWrites own s (a .rows)) (t .is) ∙ writes-append (decimal z) o
+
+  pub counter-own : Own own (take e d′) (a .rows)
+  counter-own = subst (λ (s : Bytes). Own own s (a .rows)) (sym (t .is)) (own-append (decimal z) o)
+
+  pub counter-key : KeyIn p (take e d′) 2
+  counter-key = record {
+    words-in = key .words-in;
+    key-in = omega (arith, key .key-in, ap length (t .is), length-append (take (a .used) d) (decimal z));
+  }
+
+  pub counter-start : a .used ≤ length (take e d′)
+  counter-start = omega (arith, ap length (t .is), length-append (take (a .used) d) (decimal z), front)
+
+  pub counter-set : {c : Bool} {own′ : List ℕ} {rows : ℕ} {next : Put} {out out′ : Bytes} → Adds (encode (Integer z)) (a .put) out next out′
+      → OwnPut own own′ (take e d′) (a .rows) (keyPart p (take e d′) 2) (some (part (a .used) (length (take e d′) - a .used) (take e d′))) rows
+      → CounterSet (keyPart p (take (a .used) d) 2) n c own d out a own′ d′ out′ (record { rows = rows; used = e; conflict = c; put = next })
+  counter-set s u = record {
+    kept = u .kept;
+    writes = u .is ∙ (λ i. update (key-same i) (some (some (value-same i))) (writes-same i)) ∙ sym (last-one (ownWrites own (take (a .used) d) (a .rows)) (keyPart p (take (a .used) d) 2, some (decimal n)));
+    few = u .most;
+    text = subst (λ (v : ℤ). TextPut v d (a .used) d′ e) z-is t;
+    conflict-is = refl;
+    adds = same-added (ap (λ (v : ℤ). encode (Integer v)) (sym z-is)) s;
+    same = u .same;
+  }
+
 -- ALL TOGETHER
 same-advanced : {e e′ : Effect} (ks : List Key) (most seq : ℕ) (w : List ℕ) (b : Bytes) {own : List ℕ} {d out : Bytes} {a : Walked} {own′ : List ℕ} {d′ out′ : Bytes} {r : Walked}
     → e ≡ e′ → Advanced e′ ks most seq w b own d out a own′ d′ out′ r → Advanced e ks most seq w b own d out a own′ d′ out′ r
@@ -155,107 +205,67 @@ or-none : (x : Bool) → x ≡ (x || false)
 or-none true = refl
 or-none false = refl
 
--- the data in use, as `&data[..used]` lends it
-pub lent-used : (used : ℕ) (d : Bytes) → used + 20 ≤ length d → used ≡ length (take used d)
-lent-used used d h = sym (length-take-le used d (omega arith))
-
-pub lent-text : (n : ℤ) (used : ℕ) (d : Bytes) {d′ : Bytes} {e : ℕ} → TextPut n d used d′ e → e ≡ length (take e d′)
-lent-text n used d {d′} {e} t = sym (length-take-le e d′ (t .inside))
-
 -- the key of a counter
 abbrev nameAt : List ℕ → ℕ → Bytes → Key
 nameAt p count s = argument 1 (argumentsAt 0 count p s)
 
+pub counter-place : {p : List ℕ} {s : Bytes} {count : ℕ} → PartsIn p s count → 2 ≤ count → KeyIn p s 2
+counter-place ps least = record { words-in = omega (arith, ps .table); key-in = ps .inside 1 (omega arith) }
+
 module _ (w : List ℕ) (b : Bytes) (seq : ℕ) (by : ℤ) (p : List ℕ) (count : ℕ) {own : List ℕ} (d : Bytes) (a : Walked)
-    (o : Own own (take (a .used) d) (a .rows)) (ps : PartsIn p (take (a .used) d) count) (least : 2 ≤ count) (room : a .used + 20 ≤ length d) where
-  module _ (x : Raised) {m c : Bool} {n₀ : ℤ} (by-is : n₀ ≡ by)
-      (is : raisedEffect (nameAt p count (take (a .used) d)) x ≡ raised (nameAt p count (take (a .used) d)) n₀ (held (readerOf own (take (a .used) d) (a .rows) w b seq (nameAt p count (take (a .used) d)))))
-      (m-is : m ≡ moved seq (versionsIn w b) (nameAt p count (take (a .used) d))) (c-is : c ≡ (a .conflict || m)) where
-    effect-is : {y : Raised} → x ≡ y → counterEffect by (readerOf own (take (a .used) d) (a .rows) w b seq) (argumentsAt 0 count p (take (a .used) d)) ≡ raisedEffect (nameAt p count (take (a .used) d)) y
+    (o : Own own (take (a .used) d) (a .rows)) (ps : PartsIn p (take (a .used) d) count) (least : 2 ≤ count) where
+  module _ {m c : Bool} {h : Number} (m-is : m ≡ moved seq (versionsIn w b) (nameAt p count (take (a .used) d))) (c-is : c ≡ (a .conflict || m))
+      (h-is : h ≡ held (readerOf own (take (a .used) d) (a .rows) w b seq (nameAt p count (take (a .used) d)))) where
+    effect-is : {e : Effect} → raised (nameAt p count (take (a .used) d)) by h ≡ e → counterEffect by (readerOf own (take (a .used) d) (a .rows) w b seq) (argumentsAt 0 count p (take (a .used) d)) ≡ e
     unfolding counterEffect
-    effect-is e = sym (is ∙ ap (λ (z : ℤ). raised (nameAt p count (take (a .used) d)) z (held (readerOf own (take (a .used) d) (a .rows) w b seq (nameAt p count (take (a .used) d))))) by-is) ∙ ap (raisedEffect (nameAt p count (take (a .used) d))) e
+    effect-is e = sym (ap (raised (nameAt p count (take (a .used) d)) by) h-is) ∙ e
 
     -- an error sets nothing
-    not-set : {y : Raised} (f : Fixed) {next : Put} {out out′ : Bytes} → x ≡ y → raisedEffect (nameAt p count (take (a .used) d)) y ≡ (fixedReply f, []) → Adds (encode (fixedReply f)) (a .put) out next out′
-        → Advanced (counterEffect by (readerOf own (take (a .used) d) (a .rows) w b seq) (argumentsAt 0 count p (take (a .used) d))) ((nameAt p count (take (a .used) d)) ∷ []) (count - 1) seq w b own d out a own d out′
-        (record { rows = a .rows; used = a .used; conflict = c; put = next })
+    not-set : (f : Fixed) {r : Walked} {out out′ : Bytes} → raised (nameAt p count (take (a .used) d)) by h ≡ (fixedReply f, []) → CounterError f c out a out′ r
+        → Advanced (counterEffect by (readerOf own (take (a .used) d) (a .rows) w b seq) (argumentsAt 0 count p (take (a .used) d))) (nameAt p count (take (a .used) d) ∷ []) (count - 1) seq w b own d out a own d out′ r
     unfolding lastWrites anyKey
-    not-set f e y-is s =
-        same-advanced ((nameAt p count (take (a .used) d)) ∷ []) (count - 1) seq w b (effect-is e ∙ y-is)
+    not-set f e x =
+        same-advanced (nameAt p count (take (a .used) d) ∷ []) (count - 1) seq w b (effect-is e)
         (record {
-          kept = o;
-          writes = refl;
-          few = omega arith;
+          kept = rw (x .used-is, x .rows-is) o;
+          writes = rw (x .used-is, x .rows-is) refl;
+          few = omega (arith, x .rows-is);
           data-kept = refl;
-          used-more = omega arith;
-          used-few = omega arith;
-          conflict-is = c-is ∙ ap (λ (t : Bool). a .conflict || t) (m-is ∙ or-none (moved seq (versionsIn w b) (nameAt p count (take (a .used) d))));
-          adds = s;
+          used-more = omega (arith, x .used-is);
+          used-few = omega (arith, x .used-is);
+          conflict-is = x .conflict-is ∙ c-is ∙ ap (λ (t : Bool). a .conflict || t) (m-is ∙ or-none (moved seq (versionsIn w b) (nameAt p count (take (a .used) d))));
+          adds = x .adds;
           same = refl;
           same-data = refl;
         })
 
-    pub counter-bad : {next : Put} {out out′ : Bytes} → x ≡ NotInteger → Adds (encode (fixedReply fixed.NotInteger)) (a .put) out next out′
-        → Advanced (counterEffect by (readerOf own (take (a .used) d) (a .rows) w b seq) (argumentsAt 0 count p (take (a .used) d))) ((nameAt p count (take (a .used) d)) ∷ []) (count - 1) seq w b own d out a own d out′
-        (record { rows = a .rows; used = a .used; conflict = c; put = next })
-    unfolding raisedEffect fixedReply
-    counter-bad e s = not-set fixed.NotInteger e refl s
+    pub counter-bad : {r : Walked} {out out′ : Bytes} → h ≡ Bad → CounterError fixed.NotInteger c out a out′ r
+        → Advanced (counterEffect by (readerOf own (take (a .used) d) (a .rows) w b seq) (argumentsAt 0 count p (take (a .used) d))) (nameAt p count (take (a .used) d) ∷ []) (count - 1) seq w b own d out a own d out′ r
+    unfolding fixedReply
+    counter-bad e x = not-set fixed.NotInteger (raised-bad (nameAt p count (take (a .used) d)) by e) x
 
-    pub counter-over : {next : Put} {out out′ : Bytes} → x ≡ Overflow → Adds (encode (fixedReply fixed.Overflow)) (a .put) out next out′
-        → Advanced (counterEffect by (readerOf own (take (a .used) d) (a .rows) w b seq) (argumentsAt 0 count p (take (a .used) d))) ((nameAt p count (take (a .used) d)) ∷ []) (count - 1) seq w b own d out a own d out′
-        (record { rows = a .rows; used = a .used; conflict = c; put = next })
-    unfolding raisedEffect fixedReply
-    counter-over e s = not-set fixed.Overflow e refl s
+    -- x and y are n and `by` as the sum reads them
+    module _ {n x y : ℤ} {sum : Number} (is : h ≡ Int n) (x-is : x ≡ n) (y-is : y ≡ by) (sum-is : sum ≡ numberOf (x +ℤ y)) where
+      pub counter-over : {r : Walked} {out out′ : Bytes} → sum ≡ Bad → CounterError fixed.Overflow c out a out′ r
+          → Advanced (counterEffect by (readerOf own (take (a .used) d) (a .rows) w b seq) (argumentsAt 0 count p (take (a .used) d))) (nameAt p count (take (a .used) d) ∷ []) (count - 1) seq w b own d out a own d out′ r
+      unfolding fixedReply
+      counter-over e s = not-set fixed.Overflow (raised-over (nameAt p count (take (a .used) d)) by is x-is y-is sum-is e) s
 
-    -- a number sets the write
-    module _ {n z : ℤ} {e : ℕ} {d′ : Bytes} (told : x ≡ To n) (z-is : z ≡ n) (t : TextPut z d (a .used) d′ e) where
-      front : length (take (a .used) d) ≡ a .used
-      front = length-take-le (a .used) d (omega arith)
-
-      key-same : keyPart p (take e d′) 2 ≡ (nameAt p count (take (a .used) d))
-      key-same =
-          ap (λ (s : Bytes). keyPart p s 2) (t .is)
-          ∙ part-append (getD p 2 0) (getD p 3 0) (take (a .used) d) (decimal z) (ps .inside 1 (omega arith))
-          ∙ argument-is 1 ps (omega arith) refl
-
-      value-same : part (a .used) (length (take e d′) - a .used) (take e d′) ≡ decimal n
-      value-same =
-          ap (λ (s : Bytes). part (a .used) (length s - a .used) s) (t .is)
-          ∙ ap (take (length (take (a .used) d ++ decimal z) - a .used)) (drop-at (take (a .used) d) (decimal z) (a .used) front)
-          ∙ take-all (length (take (a .used) d ++ decimal z) - a .used) (decimal z) (omega (arith, length-append (take (a .used) d) (decimal z), front))
-          ∙ ap decimal z-is
-
-      writes-same : ownWrites own (take e d′) (a .rows) ≡ ownWrites own (take (a .used) d) (a .rows)
-      writes-same = ap (λ (s : Bytes). ownWrites own s (a .rows)) (t .is) ∙ writes-append (decimal z) o
-
-      pub counter-own : Own own (take e d′) (a .rows)
-      counter-own = subst (λ (s : Bytes). Own own s (a .rows)) (sym (t .is)) (own-append (decimal z) o)
-
-      pub counter-key : KeyIn p (take e d′) 2
-      counter-key = record {
-        words-in = omega (arith, ps .table);
-        key-in = omega (arith, ps .inside 1 (omega arith), ap length (t .is), length-append (take (a .used) d) (decimal z));
-      }
-
-      pub counter-start : a .used ≤ length (take e d′)
-      counter-start = omega (arith, ap length (t .is), length-append (take (a .used) d) (decimal z), front)
-
-      pub counter-set : {own′ : List ℕ} {rows : ℕ} {next : Put} {out out′ : Bytes} → Adds (encode (Integer z)) (a .put) out next out′
-          → OwnPut own own′ (take e d′) (a .rows) (keyPart p (take e d′) 2) (some (part (a .used) (length (take e d′) - a .used) (take e d′))) rows
-          → Advanced (counterEffect by (readerOf own (take (a .used) d) (a .rows) w b seq) (argumentsAt 0 count p (take (a .used) d))) ((nameAt p count (take (a .used) d)) ∷ []) (count - 1) seq w b own d out a own′ d′ out′
-          (record { rows = rows; used = e; conflict = c; put = next })
-      unfolding raisedEffect anyKey
-      counter-set {own′} {rows} s u =
-          same-advanced ((nameAt p count (take (a .used) d)) ∷ []) (count - 1) seq w b (effect-is told)
+      -- a number sets the write
+      pub counter-raised : {s t : ℤ} {r : Walked} {own′ : List ℕ} {d′ out out′ : Bytes} → sum ≡ Int s → t ≡ s → CounterSet (keyPart p (take (a .used) d) 2) t c own d out a own′ d′ out′ r
+          → Advanced (counterEffect by (readerOf own (take (a .used) d) (a .rows) w b seq) (argumentsAt 0 count p (take (a .used) d))) (nameAt p count (take (a .used) d) ∷ []) (count - 1) seq w b own d out a own′ d′ out′ r
+      unfolding anyKey
+      counter-raised {s} {t} {r} {d′ = d′} e t-is q =
+          same-advanced (nameAt p count (take (a .used) d) ∷ []) (count - 1) seq w b (effect-is (raised-to (nameAt p count (take (a .used) d)) by is x-is y-is sum-is e))
           (record {
-            kept = u .kept;
-            writes = u .is ∙ (λ i. update (key-same i) (some (some (value-same i))) (writes-same i)) ∙ sym (last-one (ownWrites own (take (a .used) d) (a .rows)) ((nameAt p count (take (a .used) d)), some (decimal n)));
-            few = omega (arith, u .most);
-            data-kept = sym (take-take (a .used) e d′ (omega (arith, t .end-is))) ∙ ap (take (a .used)) (t .is) ∙ take-at (take (a .used) d) (decimal z) (a .used) front;
-            used-more = omega (arith, t .end-is);
-            used-few = t .few;
-            conflict-is = c-is ∙ ap (λ (v : Bool). a .conflict || v) (m-is ∙ or-twice (moved seq (versionsIn w b) (nameAt p count (take (a .used) d))));
-            adds = same-added (ap (λ (v : ℤ). encode (Integer v)) (sym z-is)) s;
-            same = u .same;
-            same-data = t .same;
+            kept = q .kept;
+            writes = q .writes ∙ (λ i. lastWrites (ownWrites own (take (a .used) d) (a .rows)) ((argument-is 1 ps (omega arith) refl i, some (decimal (t-is i))) ∷ []));
+            few = omega (arith, q .few);
+            data-kept = sym (take-take (a .used) (r .used) d′ (omega (arith, q .text .end-is))) ∙ ap (take (a .used)) (q .text .is) ∙ take-at (take (a .used) d) (decimal t) (a .used) (length-take-le (a .used) d (omega (arith, q .text .inside, q .text .end-is, q .text .same)));
+            used-more = omega (arith, q .text .end-is);
+            used-few = q .text .few;
+            conflict-is = q .conflict-is ∙ c-is ∙ ap (λ (v : Bool). a .conflict || v) (m-is ∙ or-twice (moved seq (versionsIn w b) (nameAt p count (take (a .used) d))));
+            adds = same-added (ap (λ (v : ℤ). encode (Integer v)) (sym t-is)) (q .adds);
+            same = q .same;
+            same-data = q .text .same;
           })

@@ -8,17 +8,16 @@ use Rattle.key.specs.Keys.{Key}
 use Rattle.resp.specs.Reply.{array, items, head, countItems, encode, encodeAll, NilArray}
 use Rattle.memtable.specs.Table.{Reader, Write, keysOf, over, lastWrites}
 use Rattle.memtable.specs.Versions.{Version, Store, readAt, moved, commit}
-use Rattle.memtable.proofs.TableLaws.{Ascending}
+use Rattle.memtable.proofs.TableLaws.{Ascending, last-more, ascending-last, over-last}
 use Rattle.batch.specs.declared.Verdict.{Verdict}
 use Rattle.batch.specs.declared.Verdict.the-variants.{Accepted, Conflict, NoRoom, NoSequence}
 use Rattle.batch.specs.Group.{anyKey, heldKeys, conflicts, hasRoom, hasSequences, judge, verdictAlone}
-use Rattle.batch.proofs.KeyLists.{any-append}
+use Rattle.batch.proofs.KeyLists.{any-append, any-last-all}
 use Rattle.server.specs.Names.{Args}
 use Rattle.server.specs.Command.{Command, commandOf, run, checks, Ran, runQueue}
 use Rattle.server.specs.Session.{Session, clear, says, returns, readSequence, watchedKeys, pendingExec, execute}
 use Rattle.server.proofs.SessionLaws.{ranBy, memberBy, ends, execute-ends}
 use Rattle.exec.specs.Progress.{Progress, begun, advance, advanceAll}
-use Rattle.own.proofs.LastWrites.{last-more, ascending-last, over-last, any-last-all}
 
 -- what the rest of a queue adds to a progress
 unfoldable after : ℕ → List Version → Progress → Ran → Progress

@@ -1,20 +1,23 @@
 -- What running a queued command leaves.
 use Prim.Native.Nat.{ℕ, _+_, _≤_}
 use mathlib.Core.Path.{_≡_}
-use mathlib.Core.Bool.{true, _||_}
-use mathlib.Core.List.{List, _++_, map}
+use mathlib.Core.Bool.{Bool, true, _||_}
+use mathlib.Core.List.{List, [], _∷_, _++_, map}
+use mathlib.Core.Option.{some}
 use lib.IntN.{ℤ}
 use lib.ListN.{length, getD, take}
 use Rattle.key.specs.Bytes.{Bytes, part, total}
 use Rattle.key.specs.Keys.{Key}
 use Rattle.writing.specs.Puts.{Puts, Adds}
 use Rattle.number.specs.Decimal.{decimal}
-use Rattle.resp.specs.Reply.{head, encode}
+use Rattle.resp.specs.Reply.{Integer, head, encode}
 use Rattle.memtable.specs.Table.{keysOf, lastWrites}
 use Rattle.memtable.specs.Versions.{moved}
 use Rattle.memtable.specs.Rows.{versionsIn}
 use Rattle.batch.specs.Group.{anyKey}
 use Rattle.server.specs.Command.{Effect, Command, commandOf}
+use Rattle.server.specs.declared.errors.Fixed.{Fixed}
+use Rattle.server.specs.Errors.{fixedReply}
 use Rattle.server.specs.Sessions.{splitBy, allPositive}
 use Rattle.server.specs.Places.{argumentsAt, PartsIn}
 use Rattle.own.specs.Own.{ownWrites, Own}
@@ -38,6 +41,23 @@ pub record TextPut (n : ℤ) (d : Bytes) (used : ℕ) (d′ : Bytes) (e : ℕ) :
   pub inside : e ≤ length d′
   pub few : e ≤ used + 20
   pub same : length d′ ≡ length d
+
+-- a counter k set to n, its text written behind the data in use; c says whether a key has moved
+pub record CounterSet (k : Key) (n : ℤ) (c : Bool) (own : List ℕ) (d out : Bytes) (a : Walked) (own′ : List ℕ) (d′ out′ : Bytes) (r : Walked) : Type 0 where
+  pub kept : Own own′ (take (r .used) d′) (r .rows)
+  pub writes : ownWrites own′ (take (r .used) d′) (r .rows) ≡ lastWrites (ownWrites own (take (a .used) d) (a .rows)) ((k, some (decimal n)) ∷ [])
+  pub few : r .rows ≤ a .rows + 1
+  pub text : TextPut n d (a .used) d′ (r .used)
+  pub conflict-is : r .conflict ≡ c
+  pub adds : Adds (encode (Integer n)) (a .put) out (r .put) out′
+  pub same : length own′ ≡ length own
+
+-- a counter answered by an error, which sets nothing
+pub record CounterError (f : Fixed) (c : Bool) (out : Bytes) (a : Walked) (out′ : Bytes) (r : Walked) : Type 0 where
+  pub rows-is : r .rows ≡ a .rows
+  pub used-is : r .used ≡ a .used
+  pub conflict-is : r .conflict ≡ c
+  pub adds : Adds (encode (fixedReply f)) (a .put) out (r .put) out′
 
 -- any queued command: the data in use may grow behind
 pub record Advanced (e : Effect) (ks : List Key) (most seq : ℕ) (w : List ℕ) (b : Bytes) (own : List ℕ) (d out : Bytes) (a : Walked) (own′ : List ℕ) (d′ out′ : Bytes) (r : Walked) : Type 0 where

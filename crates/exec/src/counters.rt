@@ -4,9 +4,10 @@ use crate::keys;
 use command::arguments::argument;
 use encode::reply;
 use memtable::read;
+use number::Number;
 use number::decimal;
+use number::integer;
 use own::write;
-use reading::Raised;
 use reading::counter;
 use server::errors;
 use server::errors::Fixed;
@@ -20,35 +21,32 @@ ghost use Rattle.key.specs.Bytes.{part};
 ghost use Rattle.memtable.specs.Versions.{moved};
 ghost use Rattle.memtable.specs.Rows.{Valid, versionsIn};
 ghost use Rattle.batch.specs.Settling.{keyPart, KeyIn};
-ghost use Rattle.server.specs.Command.{argument, held, raised};
+ghost use Rattle.server.specs.Command.{argument, held};
 ghost use Rattle.server.specs.Places.{argumentsAt, PartsIn};
 ghost use Rattle.own.specs.Own.{Own, readerOf};
 ghost use Rattle.own.specs.Changes.{OwnPut};
-ghost use Rattle.reading.specs.Raise.{raisedEffect};
 ghost use Rattle.command.specs.Kinds.{counterEffect};
-ghost use Rattle.exec.specs.Walks.{TextPut, Advanced};
+ghost use Rattle.exec.specs.Walks.{TextPut, CounterSet, CounterError, Advanced};
 
-// What the counter that argument 1 names is raised to.
-fn raise(
+// The number that the counter that argument 1 names holds.
+fn counter_number(
     places: &[u64],
     count: usize,
-    by: i64,
     own: &[u64],
     rows: usize,
     data: &[u8],
     words: &[u64],
     bytes: &[u8],
     seq: u64,
-) -> Raised
+) -> Number
     requires { ⌜ Own (now own) (now «data») rows ⌝ }
     requires { ⌜ Valid (now words) (now bytes) ⌝ }
     requires { ⌜ PartsIn (now places) (now «data») count ⌝ }
     requires { ⌜ 2 ≤ count ⌝ }
-    ensures { λ r. ⌜ raisedEffect (argument 1 (argumentsAt 0 count (now (places .entry)) (now («data» .entry)))) r ≡ raised (argument 1 (argumentsAt 0 count (now (places .entry)) (now («data» .entry)))) by (held (readerOf (now (own .entry)) (now («data» .entry)) rows (now (words .entry)) (now (bytes .entry)) seq (argument 1 (argumentsAt 0 count (now (places .entry)) (now («data» .entry)))))) ⌝ }
+    ensures { λ r. ⌜ r ≡ held (readerOf (now (own .entry)) (now («data» .entry)) rows (now (words .entry)) (now (bytes .entry)) seq (argument 1 (argumentsAt 0 count (now (places .entry)) (now («data» .entry))))) ⌝ }
 {
     let name = argument(data, places, count, 1);
-    let held = counter::held_number(own, rows, data, words, bytes, seq, name);
-    counter::raised_by(held, by)
+    counter::held_number(own, rows, data, words, bytes, seq, name)
 }
 
 // Has the counter that argument 1 names a version above `seq`?
@@ -94,7 +92,50 @@ fn put_counter(places: &[u64], own: &mut [u64], rows: usize, data: &[u8], start:
     write::put(own, rows, data, key_start, key_len, start, len + 1)
 }
 
-// Answers the number that the counter is raised to, and sets its write; an error sets none. The key is checked in any case.
+// A counter set to `n`: the number is answered, and its text is the write of argument 1.
+fn set_counter(
+    places: &[u64],
+    own: &mut [u64],
+    data: &mut [u8],
+    out: &mut [u8],
+    at: Walked,
+    conflict: bool,
+    n: i64,
+) -> Walked
+    requires { ⌜ Own (now own) (take (at .used) (now «data»)) (at .rows) ⌝ }
+    requires { ⌜ KeyIn (now places) (take (at .used) (now «data»)) 2 ⌝ }
+    requires { ⌜ 4 * (at .rows) + 4 ≤ length (now own) ⌝ }
+    requires { ⌜ at .used + 20 ≤ length (now «data») ⌝ }
+    ensures { λ r. ⌜ CounterSet (keyPart (now (places .entry)) (take (at .used) (now («data» .entry))) 2) n conflict (now (own .entry)) (now («data» .entry)) (now (out .entry)) at (now (own .exit)) (now («data» .exit)) (now (out .exit)) r ⌝ }
+{
+    let used = at.used;
+    let put = at.put;
+    let next = reply::then_int(out, put, n);
+    let end = put_text(data, used, n);
+    let rows = put_counter(places, own, at.rows, &data[..end], used);
+    Walked {
+        rows: rows,
+        used: end,
+        conflict: conflict,
+        put: next,
+    }
+}
+
+// A counter answered by an error: nothing is set.
+fn answer_error(out: &mut [u8], at: Walked, conflict: bool, which: Fixed) -> Walked
+    ensures { λ r. ⌜ CounterError which conflict (now (out .entry)) at (now (out .exit)) r ⌝ }
+{
+    let put = at.put;
+    let next = errors::then_fixed(out, put, which);
+    Walked {
+        rows: at.rows,
+        used: at.used,
+        conflict: conflict,
+        put: next,
+    }
+}
+
+// The number read and the checked sum, or the error. The key is checked in any case.
 pub fn run_counter(
     places: &[u64],
     count: usize,
@@ -116,44 +157,23 @@ pub fn run_counter(
     ensures { λ r. ⌜ Advanced (counterEffect by (readerOf (now (own .entry)) (take (at .used) (now («data» .entry))) (at .rows) (now (words .entry)) (now (bytes .entry)) seq) (argumentsAt 0 count (now (places .entry)) (take (at .used) (now («data» .entry))))) (argument 1 (argumentsAt 0 count (now (places .entry)) (take (at .used) (now («data» .entry)))) ∷ []) (count - 1) seq (now (words .entry)) (now (bytes .entry)) (now (own .entry)) (now («data» .entry)) (now (out .entry)) at (now (own .exit)) (now («data» .exit)) (now (out .exit)) r ⌝ }
 {
     let used = at.used;
-    let rows = at.rows;
-    let put = at.put;
-    let raised = raise(
+    let moved = counter_moved(places, count, &data[..used], words, bytes, seq);
+    let conflict = keys::either(at.conflict, moved);
+    let held = counter_number(
         places,
         count,
-        by,
         own,
-        rows,
+        at.rows,
         &data[..used],
         words,
         bytes,
         seq,
     );
-    let moved = counter_moved(places, count, &data[..used], words, bytes, seq);
-    let conflict = keys::either(at.conflict, moved);
-    match raised {
-        Raised::To(n) => {
-            let next = reply::then_int(out, put, n);
-            let end = put_text(data, used, n);
-            let after = put_counter(places, own, rows, &data[..end], used);
-            Walked {
-                rows: after,
-                used: end,
-                conflict: conflict,
-                put: next,
-            }
-        }
-        Raised::NotInteger => Walked {
-            rows: rows,
-            used: used,
-            conflict: conflict,
-            put: errors::then_fixed(out, put, Fixed::NotInteger),
-        },
-        Raised::Overflow => Walked {
-            rows: rows,
-            used: used,
-            conflict: conflict,
-            put: errors::then_fixed(out, put, Fixed::Overflow),
-        },
-    }
+    let Number::Int(number) = held else {
+        return answer_error(out, at, conflict, Fixed::NotInteger);
+    };
+    let Number::Int(sum) = integer::checked_sum(number, by) else {
+        return answer_error(out, at, conflict, Fixed::Overflow);
+    };
+    set_counter(places, own, data, out, at, conflict, sum)
 }

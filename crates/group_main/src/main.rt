@@ -58,8 +58,9 @@ fn wide(byte: u8) -> u64 {
 
 // Writes a number, two verdict bytes and a line feed.
 fn show(number: u64, verdicts: &[u8; 2]) {
+    io::write_all(STDOUT_FILENO, b"number ");
     io::print_decimal(STDOUT_FILENO, number);
-    io::write_all(STDOUT_FILENO, b" ");
+    io::write_all(STDOUT_FILENO, b", verdicts ");
     io::print_decimal(STDOUT_FILENO, wide(verdicts[0]));
     io::write_all(STDOUT_FILENO, b" ");
     io::print_decimal(STDOUT_FILENO, wide(verdicts[1]));

@@ -32,8 +32,7 @@ use Rattle.memtable.specs.Walk.{liveAt, entryAt, liveFrom, nextLive}
 use Rattle.memtable.proofs.Rows.{part-bytes}
 use Rattle.memtable.proofs.Walk.{live-table}
 use Rattle.memtable.proofs.TableLaws.{Above, Ascending}
-use Rattle.memtable.proofs.VersionLaws.{ascending-table}
-use Rattle.memtable.proofs.Versions.{SeqsIn, sorted-rest}
+use Rattle.memtable.proofs.VersionLaws.{ascending-table, SeqsIn, sorted-rest}
 use Rattle.memtable.proofs.Validity.{valid-seqs}
 use Rattle.server.specs.Command.{RANGE, keep, keyInRange, pairReplies, answerListing}
 use Rattle.listing.specs.Rest.{rest, below, pairsReply}

@@ -19,13 +19,12 @@ use Rattle.memtable.specs.Layout.{countWord, usedWord, lastWord, startWo
 use Rattle.memtable.specs.Rows.{versionsIn, placeOf, Valid}
 use Rattle.memtable.specs.Moves.{shiftRows}
 use Rattle.memtable.specs.Merging.{FrontIn, Mergeable, startIn, rowMerged, bytesMerged, frontAfter, wordsAfter, bytesAfter, leaveRows}
-use Rattle.memtable.proofs.Rows.{length-versions}
+use Rattle.memtable.proofs.Rows.{length-versions, place-in}
 use Rattle.memtable.proofs.Validity.{chain-ends, valid-chain}
 use Rattle.memtable.proofs.Moves.{five}
-use Rattle.memtable.proofs.Encoding.{Encoded, encoded, table-append, bytes-append, shift-table, length-table, take-table, take-bytes, used-two, start-two, place-in, leave-words}
-use Rattle.memtable.proofs.Written.{decoded}
-use Rattle.memtable.proofs.Sequence.{commit-count, commit-bytes, commit-last}
-use Rattle.memtable.proofs.VersionLaws.{later-commit}
+use Rattle.memtable.proofs.Encoding.{Encoded, encoded, table-append, bytes-append, shift-table, length-table, take-table, take-bytes, used-two, start-two, leave-words, versions-size}
+use Rattle.memtable.proofs.LayoutLaws.{decoded}
+use Rattle.memtable.proofs.VersionLaws.{commit-count, commit-size, commit-last, later-commit}
 use Rattle.memtable.proofs.MergeLaws.{fresh, insertAll, commit-versions, merge-none, merge-step, KeysBelow, fresh-before, fresh-more}
 
 -- a front of a sorted list is sorted
@@ -424,7 +423,8 @@ module _ {w₀ b₀ : List ℕ} {all : List Write} {f : Front} {w b : List ℕ} 
 
   merged-bytes : length (versionBytes (merged .versions)) ≡ usedWord w₀ + writesSize all
   unfolding storeIn
-  merged-bytes = commit-bytes all (storeIn w₀ b₀) ∙ omega (arith, encoded w₀ b₀ (m .valid .valid) .used-is)
+  merged-bytes =
+      omega (arith, versions-size (merged .versions), commit-size all (storeIn w₀ b₀), versions-size (versionsIn w₀ b₀), encoded w₀ b₀ (m .valid .valid) .used-is)
 
   pub pass-rows : w ≡ leaveRows merged w₀
   unfolding leaveRows
@@ -461,7 +461,8 @@ rows-headed w b all {c} {u} {l} v c-is u-is l-is p q =
     let en = encoded w b (v .valid) in
     let rows : List ℕ = rowWords 0 (st .versions) ++ drop (5 + 4 * length (st .versions)) w in
     let cs : c ≡ length (st .versions) = omega (arith, c-is, commit-count all (storeIn w b), length-versions w b 0 (countWord w)) in
-    let us : u ≡ length (versionBytes (st .versions)) = omega (arith, u-is, commit-bytes all (storeIn w b), en .used-is) in
+    let us : u ≡ length (versionBytes (st .versions)) =
+    omega (arith, u-is, versions-size (st .versions), commit-size all (storeIn w b), versions-size (versionsIn w b), en .used-is) in
     let kept = later-commit all (storeIn w b) in
     let ls : l ≡ st .last = l-is ∙ sym (commit-last all (storeIn w b)) in
     q ∙ ap (λ (x : List ℕ). set (set (set x 0 c) 1 u) 2 l) (p ∙ ap (λ (x : List ℕ). x ++ rows) (five w (en .head-in)))

@@ -99,9 +99,6 @@ tombstones-none w d n p from to o h = record { low = omega arith; high = h; taki
 
 module _ {w w′ : List ℕ} {d : Bytes} {n : ℕ} {p : List ℕ} {from to r i : ℕ} (t : Tombstones w w′ d n p from to r i) where
   module _ (h : i < to) where
-    pub tombstone-part : PartsIn p d to → KeyIn p d (2 * i)
-    tombstone-part ps = part-in p d to i ps h
-
     pub tombstone-room : 4 * (n + (to - from)) ≤ length w → 4 * r + 4 ≤ length w′
     tombstone-room room = omega (arith, t .low, t .taking .most, t .taking .same)
 

@@ -1,6 +1,5 @@
 -- Laws of the own writes as a whole: there are none at first, data that grows behind leaves them, and the words say their sizes. Assumes nothing.
 use Prim.Native.Nat.{ℕ, zero, suc, _+_, _-_, _*_, _≤_, _<_}
-use native.Mathlib.Nat.{zero-add}
 use native.Mathlib.Omega.{arith}
 use mathlib.Core.Path.{_≡_, refl, sym, ap, _∙_, subst}
 use mathlib.Core.Bool.{true}
@@ -15,9 +14,9 @@ use Rattle.memtable.specs.Layout.{valueOfWord}
 use Rattle.memtable.proofs.TableLaws.{Ascending}
 use Rattle.batch.specs.Members.{listFrom, allFrom, valueInside, writeAt, writeInside}
 use Rattle.batch.specs.Settling.{WriteIn, sizesFrom}
-use Rattle.batch.proofs.SizeLaws.{write-in, writes-size, list-long}
+use Rattle.batch.proofs.Walks.{list-long, same-list, all-of, all-at}
+use Rattle.batch.proofs.SizeLaws.{write-in, writes-size}
 use Rattle.own.specs.Own.{ownWrites, Own}
-use Rattle.own.proofs.Lists.{same-list, all-of, all-at}
 
 -- NONE AT FIRST
 pub none-writes : (w : List ℕ) (d : Bytes) → ownWrites w d 0 ≡ []
@@ -31,7 +30,7 @@ own-none w d = record { rows = record { rows-in = omega arith; parts-in = refl }
 -- a row is there, with its key and its value
 pub own-row : (w : List ℕ) (d : Bytes) {n j : ℕ} → Own w d n → j < n → WriteIn w d j
 own-row w d {n} {j} o h =
-    write-in w d j (omega (arith, o .rows .rows-in)) (sym (ap (writeInside w d) (zero-add j)) ∙ all-at (writeInside w d) 0 n (o .rows .parts-in) j h)
+    write-in w d j (omega (arith, o .rows .rows-in)) (all-at (writeInside w d) 0 n j (o .rows .parts-in) (omega arith) (omega arith))
 
 -- SIZES
 pub own-count : (w : List ℕ) (d : Bytes) (n : ℕ) → length (ownWrites w d n) ≡ n

@@ -1,7 +1,6 @@
 -- The laws of this crate.
 pub mod ArgumentLaws
 pub mod Growing
-pub mod LastWrites
 pub mod Lists
 pub mod Places
 pub mod PutLaws

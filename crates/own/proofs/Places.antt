@@ -8,7 +8,7 @@ use mathlib.Core.Bool.{Bool, true, false, cond}
 use mathlib.Core.List.{List, [], _∷_, _++_}
 use mathlib.Core.Option.{Option, none, some}
 use lib.ListN.{take, drop}
-use borrow.Author.Tests.{ltb-true, lt-ltb, le-ltb, leb-true}
+use borrow.Author.Tests.{ltb-true, lt-ltb, le-ltb}
 use Rattle.key.specs.declared.Order.{Order}
 use Rattle.key.specs.declared.Order.the-variants.{Less, Equal, Greater}
 use Rattle.key.specs.Bytes.{Bytes, _and_}
@@ -17,12 +17,13 @@ use Rattle.key.proofs.Keys.{less-is, turned, compare-turned, compare-trans, com
 use Rattle.key.proofs.Bytes.{and-left, and-right, neither}
 use Rattle.memtable.specs.Table.{Value, Write, update, find}
 use Rattle.memtable.proofs.TableLaws.{Above, Ascending, step, update-step, above-trans, find-above}
-use Rattle.batch.specs.Members.{listFrom, writeAt, writeInside}
+use Rattle.batch.specs.Members.{listFrom, writeAt}
 use Rattle.batch.specs.Settling.{keyPart, KeyIn}
 use Rattle.own.specs.Own.{ownWrites, Own, OwnAt}
 use Rattle.own.specs.Changes.{placeAmong, heldAt}
-use Rattle.batch.proofs.Walks.{list-next, list-end}
-use Rattle.own.proofs.Lists.{by-order, take-list, drop-list, all-at}
+use Rattle.batch.proofs.Walks.{list-next, list-end, take-list, drop-list}
+use Rattle.own.proofs.Growing.{own-row}
+use Rattle.own.proofs.Lists.{by-order}
 
 -- the key of row i, from the part l
 module _ (w : List ℕ) (d : Bytes) (i : ℕ) (k : Key) {l : Key} (p : l ≡ keyPart w d (4 * i)) where
@@ -50,13 +51,7 @@ held-past w d n i k h = rw (le-ltb i n h)
 
 -- the key of a row lies in the data
 pub own-key-in : (w : List ℕ) (d : Bytes) {n i : ℕ} → Own w d n → i < n → KeyIn w d (4 * i)
-unfolding writeInside
-own-key-in w d {n} {i} o h =
-    let e : 0 + i ≡ i = zero-add i in
-    record {
-      words-in = omega (arith, o .rows .rows-in);
-      key-in = leb-true _ _ (and-left _ _ (sym (ap (writeInside w d) e) ∙ all-at (writeInside w d) 0 n (o .rows .parts-in) i h));
-    }
+own-key-in w d o h = let r = own-row w d o h in record { words-in = omega (arith, r .row-in); key-in = r .key-in }
 
 below-trans : (a b k : Key) → compareKeys a b ≡ Less → keyBelow b k ≡ true → keyBelow a k ≡ true
 unfolding keyBelow

@@ -17,9 +17,10 @@ use Rattle.memtable.specs.Moves.{movedUp, putAt}
 use Rattle.memtable.proofs.Moves.{length-moved}
 use Rattle.memtable.proofs.TableLaws.{Ascending, ascending-update}
 use Rattle.batch.specs.Members.{listFrom, writeAt, writeInside}
+use Rattle.batch.proofs.Walks.{join-list, same-list, all-of, all-at}
 use Rattle.own.specs.Own.{ownWrites, Own}
 use Rattle.own.specs.Changes.{placeAmong, heldAt, RowFits, OwnPut}
-use Rattle.own.proofs.Lists.{by-order, join-list, same-list, all-of, all-at}
+use Rattle.own.proofs.Lists.{by-order}
 use Rattle.own.proofs.Places.{place-within, held-inside, changed-here, changed-between}
 use Rattle.own.proofs.RowLaws.{length-put, same-write, same-inside, row-other-before, row-other-behind, row-write, row-inside, row-stays, row-moves}
 
@@ -39,7 +40,7 @@ put-made {w} {w′} {d} {n} {r} {k} {v} o a b room same inside is = record {
 }
 
 own-inside : (w : List ℕ) (d : Bytes) (n j : ℕ) → Own w d n → j < n → writeInside w d j ≡ true
-own-inside w d n j o h = sym (ap (writeInside w d) (zero-add j)) ∙ all-at (writeInside w d) 0 n (o .rows .parts-in) j h
+own-inside w d n j o h = all-at (writeInside w d) 0 n j (o .rows .parts-in) (omega arith) (omega arith)
 
 -- the part that is looked up is the key
 cut : (d : Bytes) (ks kl : ℕ) → part ks (ks + kl - ks) d ≡ part ks kl d

@@ -8,10 +8,10 @@ use Rattle.key.specs.Keys.{Key}
 use Rattle.memtable.specs.Table.{Value, Write, find, over}
 use Rattle.memtable.specs.Versions.{readAt}
 use Rattle.memtable.specs.Rows.{versionsIn}
+use Rattle.memtable.proofs.TableLaws.{over-some, over-none, over-last, last-one}
 use Rattle.batch.specs.Members.{writeAt}
 use Rattle.own.specs.Own.{ownWrites, Own, OwnAt, readerOf}
 use Rattle.own.specs.Changes.{OwnPut, OwnPuts}
-use Rattle.own.proofs.LastWrites.{over-some, over-none, over-last, last-one}
 use Rattle.own.proofs.Growing.{writes-append, none-writes}
 
 module _ {own : List ℕ} {d : Bytes} {n : ℕ} (o : Own own d n) (w : List ℕ) (b : Bytes) (s : ℕ) where

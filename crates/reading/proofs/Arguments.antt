@@ -11,17 +11,13 @@ use Rattle.key.specs.Bytes.{Bytes}
 use Rattle.key.specs.Keys.{Key}
 use Rattle.memtable.specs.Table.{Value, Reader}
 use Rattle.memtable.specs.Walk.{isLive}
-use Rattle.batch.specs.Settling.{keyPart, KeyIn}
+use Rattle.batch.specs.Settling.{keyPart}
 use Rattle.server.specs.Command.{liveOne, live}
-use Rattle.server.specs.Places.{argumentsAt, PartsIn}
+use Rattle.server.specs.Places.{argumentsAt}
 use Rattle.server.proofs.PlaceLaws.{arguments-count}
 use Rattle.reading.specs.See.{CountsOne}
 
 module _ (places : List ℕ) (input : Bytes) where
-  -- argument i is there
-  pub argument-in : {to i : ℕ} → PartsIn places input to → i < to → KeyIn places input (2 * i)
-  argument-in {to} {i} p h = record { words-in = omega (arith, p .table); key-in = p .inside i h }
-
   -- argument i, and those behind it
   pub arguments-next : {to i : ℕ} → i < to → argumentsAt i (to - i) places input ≡ keyPart places input (2 * i) ∷ argumentsAt (i + 1) (to - (i + 1)) places input
   unfolding argumentsAt

@@ -1,11 +1,10 @@
 -- Laws of reading through own writes over the store, and of the places that a read gives. Assumes nothing.
-use Prim.Native.Nat.{ℕ, zero, suc, _+_, _-_, _*_, _≤_, _<_}
-use native.Mathlib.Decide.{decLe}
+use Prim.Native.Nat.{ℕ, zero, suc, _+_, _-_, _*_, _≤_}
 use native.Mathlib.Omega.{arith}
 use mathlib.Core.Path.{_≡_, refl, sym, ap, subst, _∙_}
-use mathlib.Core.Bool.{Bool, true, false, false≢true}
+use mathlib.Core.Bool.{Bool, true, false}
 use mathlib.Core.List.{List}
-use mathlib.Core.Option.{Option, none, some}
+use mathlib.Core.Option.{none, some}
 use lib.Dec.{eqb}
 use lib.ListN.{length, getD}
 use borrow.Author.Tests.{eqb-true, eqb-false}
@@ -13,56 +12,19 @@ use Rattle.key.specs.Bytes.{Bytes, part}
 use Rattle.key.specs.Keys.{Key}
 use Rattle.memtable.specs.declared.Found.{Found}
 use Rattle.memtable.specs.declared.Found.the-variants.{At, Nothing}
-use Rattle.memtable.specs.Table.{Value, find, over}
-use Rattle.memtable.specs.Versions.{readAt, findFrom}
+use Rattle.memtable.specs.Table.{find}
+use Rattle.memtable.specs.Versions.{findFrom}
 use Rattle.memtable.specs.Layout.{valueOfWord, valuePart}
 use Rattle.memtable.specs.Rows.{Valid, RowIn, liveFound, valueFound, versionsIn}
 use Rattle.memtable.specs.Walk.{isLive}
 use Rattle.memtable.proofs.Rows.{read-found, read-row}
-use Rattle.own.proofs.LastWrites.{over-some, over-none}
-use Rattle.batch.specs.Members.{listFrom, allFrom, valueInside, writeAt, writeInside}
-use Rattle.batch.specs.Settling.{WriteIn}
-use Rattle.batch.proofs.SizeLaws.{write-in}
+use Rattle.batch.specs.Members.{valueInside, writeAt}
 use Rattle.own.specs.Own.{Own, OwnAt, OwnFound, ownWrites, readerOf}
+use Rattle.own.proofs.Growing.{own-row}
+use Rattle.own.proofs.Readers.{reader-at, reader-past}
 use Rattle.reading.specs.declared.Seen.{Seen}
 use Rattle.reading.specs.declared.Seen.the-variants.{Written, Stored, Absent}
 use Rattle.reading.specs.See.{seenValue, storedSeen, LiveRow, SeenIn, Sees}
-
--- what holds of all places holds of each
-pub all-at : (f : ℕ → Bool) (i n j : ℕ) → allFrom f i n ≡ true → i ≤ j → j < i + n → f j ≡ true
-unfolding allFrom
-all-at f i zero j a l h = absurd (omega arith)
-all-at f i (suc n) j a l h = go (f i) refl a (decLe (suc i) j) (all-at f (suc i) n j)
-  where
-    go : (t : Bool) → f i ≡ t → elim t [ true ↦ allFrom f (suc i) n | false ↦ false ] ≡ true → Dec (suc i ≤ j)
-        → (allFrom f (suc i) n ≡ true → suc i ≤ j → j < suc i + n → f j ≡ true) → f j ≡ true
-    go true p q (yes m) ih = ih q m (omega arith)
-    go true p q (no m) ih = let e : j ≡ i = omega arith in ap f e ∙ p
-    go false p q m ih = absurd (false≢true q)
-
--- a row of the own writes is there, with its key and its value
-pub own-row : (own : List ℕ) (d : Bytes) (n j : ℕ) → Own own d n → j < n → WriteIn own d j
-own-row own d n j o h =
-    write-in own d j (omega (arith, o .rows .rows-in)) (all-at (writeInside own d) 0 n j (o .rows .parts-in) (omega arith) (omega arith))
-
--- no own writes
-pub own-none : (own : List ℕ) (d : Bytes) → Own own d 0
-unfolding ownWrites listFrom allFrom
-own-none own d = record { rows = record { rows-in = omega arith; parts-in = refl }; rising = tt }
-
-pub reader-none : (own : List ℕ) (d : Bytes) (w : List ℕ) (b : Bytes) (s : ℕ) → readerOf own d 0 w b s ≡ readAt s (versionsIn w b)
-unfolding readerOf ownWrites listFrom over
-reader-none own d w b s = refl
-
--- READING: the value of the key's own write, or else what the store gives
-module _ (own : List ℕ) (d : Bytes) (n : ℕ) (w : List ℕ) (b : Bytes) (s : ℕ) (k : Key) (o : Own own d n) where
-  pub reader-written : {x : Option Value} → find (ownWrites own d n) k ≡ some x → readerOf own d n w b s k ≡ x
-  unfolding readerOf
-  reader-written e = over-some (ownWrites own d n) (readAt s (versionsIn w b)) k (o .rising) e
-
-  pub reader-stored : find (ownWrites own d n) k ≡ none → readerOf own d n w b s k ≡ readAt s (versionsIn w b) k
-  unfolding readerOf
-  reader-stored e = over-none (ownWrites own d n) (readAt s (versionsIn w b)) k (o .rising) e
 
 -- what a lookup of the key answers, by its cases
 module _ (own : List ℕ) (d : Bytes) (n : ℕ) (k : Key) where
@@ -82,22 +44,22 @@ word-none x v e = rw (eqb-true x 0 e)
 module _ (own : List ℕ) (d : Bytes) (n : ℕ) (w : List ℕ) (b : Bytes) (s : ℕ) (k : Key) (o : Own own d n) {f : Found} (found : OwnFound own d n k f) where
   module _ {j : ℕ} (at : f ≡ At j) where
     pub row-words : 4 * j + 4 ≤ length own
-    row-words = own-row own d n j o (at-row own d n k f found at .inside) .row-in
+    row-words = own-row own d o (at-row own d n k f found at .inside) .row-in
 
     module _ {t : Bool} (t-is : t ≡ eqb (getD own (4 * j + 3) 0) 0) where
       pub sees-tombstone : t ≡ true → Sees own d n w b s k Absent
       unfolding writeAt
       sees-tombstone e = record {
         value =
-            sym (reader-written own d n w b s k o (at-row own d n k f found at .is)
+            sym (reader-at o w b s k (at-row own d n k f found at)
             ∙ word-none (getD own (4 * j + 3) 0) (part (getD own (4 * j + 2) 0) (getD own (4 * j + 3) 0 - 1) d) (sym t-is ∙ e));
         place = tt;
       }
 
       pub sees-written : t ≡ false → Sees own d n w b s k (Written j)
       sees-written e = record {
-        value = sym (reader-written own d n w b s k o (at-row own d n k f found at .is));
-        place = record { inside = own-row own d n j o (at-row own d n k f found at .inside); lives = eqb-false (getD own (4 * j + 3) 0) 0 (sym t-is ∙ e) };
+        value = sym (reader-at o w b s k (at-row own d n k f found at));
+        place = record { inside = own-row own d o (at-row own d n k f found at .inside); lives = eqb-false (getD own (4 * j + 3) 0) 0 (sym t-is ∙ e) };
       }
 
   pub sees-stored : {r : Seen} → f ≡ Nothing → Valid w b → r ≡ storedSeen (liveFound w (findFrom 0 (versionsIn w b) k s)) → Sees own d n w b s k r
@@ -105,7 +67,7 @@ module _ (own : List ℕ) (d : Bytes) (n : ℕ) (w : List ℕ) (b : Bytes) (s : 
   sees-stored {r} e v is = subst (λ (x : Seen). Sees own d n w b s k x) (sym is) (go (liveFound w (findFrom 0 (versionsIn w b) k s)) refl)
     where
       below : (x : Found) → x ≡ liveFound w (findFrom 0 (versionsIn w b) k s) → valueFound w b x ≡ readerOf own d n w b s k
-      below x is = sym (reader-stored own d n w b s k o (at-none own d n k f found e) ∙ read-found w b k s is)
+      below x is = sym (reader-past o w b s k (at-none own d n k f found e) ∙ read-found w b k s is)
 
       go : (x : Found) → x ≡ liveFound w (findFrom 0 (versionsIn w b) k s) → Sees own d n w b s k (storedSeen x)
       go (At i) is = record { value = below (At i) is; place = read-row w b k s is v refl }

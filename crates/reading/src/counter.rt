@@ -1,16 +1,13 @@
-// Counters: the number that a key holds, and the number that it is raised to.
-use crate::Raised;
+// Counters: the number that a key holds.
 use crate::Seen;
 use crate::see;
 use memtable::read;
 use number::Number;
 use number::integer;
 ghost use mathlib.Core.Path.{_≡_};
-ghost use Rattle.key.specs.Keys.{Key};
 ghost use Rattle.memtable.specs.Rows.{Valid};
-ghost use Rattle.server.specs.Command.{held, raised};
+ghost use Rattle.server.specs.Command.{held};
 ghost use Rattle.own.specs.Own.{Own, readerOf};
-ghost use Rattle.reading.specs.Raise.{raisedEffect};
 
 // The number that `name` holds: 0 where it is absent.
 pub fn held_number(
@@ -32,17 +29,4 @@ pub fn held_number(
         Seen::Stored(i) => integer::int_arg(read::value_of(words, bytes, i)),
         Seen::Absent => Number::Int(0),
     }
-}
-
-// A counter that holds `held`, raised.
-pub fn raised_by(held: Number, by: i64) -> Raised
-    ensures { λ r. ⌜ ((k : Key) → raisedEffect k r ≡ raised k by held) ⌝ }
-{
-    let Number::Int(number) = held else {
-        return Raised::NotInteger;
-    };
-    let Number::Int(sum) = integer::checked_sum(number, by) else {
-        return Raised::Overflow;
-    };
-    Raised::To(sum)
 }

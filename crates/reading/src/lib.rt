@@ -10,10 +10,3 @@ pub enum Seen {
     Stored(usize),
     Absent,
 }
-
-// A counter raised: to a number, or not, for a text that is no number or a sum beyond 64 bits.
-pub enum Raised {
-    To(i64),
-    NotInteger,
-    Overflow,
-}

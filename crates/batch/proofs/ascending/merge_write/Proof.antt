@@ -1,6 +1,5 @@
 -- `batch::ascending::merge_write` meets its contract. The write that the words say. Assumes nothing.
-use Rattle.batch.proofs.AscendingLaws.{given-mergeable, given-front, given-rows, given-data}
-use Rattle.batch.proofs.PartLaws.{value-given}
+use Rattle.batch.proofs.PartLaws.{value-given, given-mergeable, given-front, given-rows, given-data}
 use borrow.Author.Needs.{needs}
 use Rattle.batch.proofs.ascending.merge_write.Statement.{statement}
 use Rattle.batch.proofs.ascending.merge_write.Tie as tie

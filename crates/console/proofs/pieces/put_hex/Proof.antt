@@ -1,8 +1,10 @@
 -- `console::pieces::put_hex` meets its contract. The invariant: the first i bytes are written, `Hexing`. Assumes nothing.
+use native.Mathlib.Omega.{arith}
+use lib.Seq.{lt-length-set}
 use borrow.Author.Needs.{needs}
-use Prim.Native.Nat.{_-_}
+use Prim.Native.Nat.{_-_, _*_}
 use lib.ListN.{length}
-use Rattle.console.proofs.AnswerLaws.{Hexing, hexing-none, hexing-more, second-place, hexing-whole, hex-too-long}
+use Rattle.console.proofs.AnswerLaws.{Hexing, hexing-none, hexing-more, hexing-whole, hex-too-long}
 use Rattle.console.proofs.pieces.put_hex.Statement.{statement}
 use Rattle.console.proofs.pieces.put_hex.Tie as tie
 
@@ -46,7 +48,7 @@ add-out : tie.Need-add-out Inv-loop μ-loop
 add-out c = search needs
 
 slice-write-out-2 : tie.Need-slice-write-out-2 Inv-loop μ-loop
-slice-write-out-2 c = search second-place
+slice-write-out-2 c = lt-length-set (c .before .before .before .before .loop .out) (c .before .before .before .before .loop .i * 2) (c .before .high-digit .result) (omega (arith, c .before .before .before .before .loop .inv .room, c .before .before .before .before .loop .inv .size, c .before .before .before .loop-test .taken))
 
 add-i : tie.Need-add-i Inv-loop μ-loop
 add-i c = search needs

@@ -1,6 +1,6 @@
 -- `direct::run::run_counter` meets its contract. Assumes nothing.
 use mir.Facts.{toZ-ofZ}
-use Rattle.direct.proofs.Commands.{raised-runs, raised-no-integer, raised-overflow}
+use Rattle.direct.proofs.Commands.{raised-no-integer, raised-overflow, raised-runs}
 use borrow.Author.Needs.{needs}
 use Rattle.direct.proofs.run.run_counter.Statement.{statement}
 use Rattle.direct.proofs.run.run_counter.Tie as tie
@@ -8,26 +8,14 @@ use Rattle.direct.proofs.run.run_counter.Tie as tie
 held-number-requires : tie.Need-held-number-requires
 held-number-requires c κs = search needs
 
-raised-by-requires : tie.Need-raised-by-requires
-raised-by-requires c κs = search needs
-
-enum-known-raised : tie.Need-enum-known-raised
-enum-known-raised c = search needs
-
-run-number-requires : tie.Need-run-number-requires
-run-number-requires c κs = search needs
+enum-known-number : tie.Need-enum-known-number
+enum-known-number c = search needs
 
 enum-told : tie.Need-enum-told
 enum-told c = search needs
 
 answer-fixed-requires : tie.Need-answer-fixed-requires
 answer-fixed-requires c κs = search needs
-
-enum-told-2 : tie.Need-enum-told-2
-enum-told-2 c = search needs
-
-answer-fixed-requires-2 : tie.Need-answer-fixed-requires-2
-answer-fixed-requires-2 c κs = search needs
 
 same-length : tie.Need-same-length
 same-length c = search needs
@@ -38,11 +26,23 @@ same-length-2 c = search needs
 same-length-3 : tie.Need-same-length-3
 same-length-3 c = search needs
 
+returns : tie.Need-returns
+returns c = raised-no-integer _ _ _ _ _ (c .before .before .before .before .before .before .before .before .held-number .ensures) (c .before .before .before .before .before .before .enum-told .given .1) (c .before .before .answer-fixed .ensures)
+
+checked-sum-requires : tie.Need-checked-sum-requires
+checked-sum-requires c κs = search needs
+
+enum-known-sum : tie.Need-enum-known-sum
+enum-known-sum c = search needs
+
+enum-told-2 : tie.Need-enum-told-2
+enum-told-2 c = search needs
+
+answer-fixed-requires-2 : tie.Need-answer-fixed-requires-2
+answer-fixed-requires-2 c κs = search needs
+
 same-length-4 : tie.Need-same-length-4
 same-length-4 c = search needs
-
-returns : tie.Need-returns
-returns c = raised-runs _ _ _ _ _ _ (c .before .before .before .before .before .before .before .before .before .before .before .before .before .before .before .before .before .held-number .ensures) (c .before .before .before .before .before .before .before .before .before .before .before .before .before .before .before .before .raised-by .ensures) (toZ-ofZ (c .before .before .before .before .before .before .before .before .before .before .before .before .before .before .before .before .before .before .before .before .before .before .before .before .before .fits .by)) (c .before .before .before .before .before .before .before .before .before .before .before .before .before .before .raised .given .1) (toZ-ofZ (record { sfits = c .before .before .before .before .before .before .before .before .before .before .before .before .before .known-told .given .0 .1 })) (c .before .before .before .before .before .before .before .before .run-number .ensures)
 
 same-length-5 : tie.Need-same-length-5
 same-length-5 c = search needs
@@ -50,11 +50,14 @@ same-length-5 c = search needs
 same-length-6 : tie.Need-same-length-6
 same-length-6 c = search needs
 
+returns-2 : tie.Need-returns-2
+returns-2 c = raised-overflow _ _ _ _ _ (c .before .before .before .before .before .before .before .before .before .before .before .before .held-number .ensures) (c .before .before .before .before .before .before .before .before .before .before .number .given .1) (toZ-ofZ (record { sfits = c .before .before .before .before .before .before .before .before .before .known-told .given .0 .1 })) (toZ-ofZ (c .before .before .before .before .before .before .before .before .before .before .before .before .before .before .before .before .before .before .before .before .fits .by)) (c .before .before .before .before .before .before .before .before .checked-sum .ensures) (c .before .before .before .before .before .before .enum-told2 .given .1) (c .before .before .answer-fixed2 .ensures)
+
+run-number-requires : tie.Need-run-number-requires
+run-number-requires c κs = search needs
+
 same-length-7 : tie.Need-same-length-7
 same-length-7 c = search needs
-
-returns-2 : tie.Need-returns-2
-returns-2 c = raised-no-integer _ _ _ _ _ _ (c .before .before .before .before .before .before .before .before .before .held-number .ensures) (c .before .before .before .before .before .before .before .before .raised-by .ensures) (toZ-ofZ (c .before .before .before .before .before .before .before .before .before .before .before .before .before .before .before .before .before .fits .by)) (search needs) (c .before .before .answer-fixed .ensures)
 
 same-length-8 : tie.Need-same-length-8
 same-length-8 c = search needs
@@ -66,29 +69,30 @@ same-length-10 : tie.Need-same-length-10
 same-length-10 c = search needs
 
 returns-3 : tie.Need-returns-3
-returns-3 c = raised-overflow _ _ _ _ _ _ (c .before .before .before .before .before .before .before .before .before .held-number .ensures) (c .before .before .before .before .before .before .before .before .raised-by .ensures) (toZ-ofZ (c .before .before .before .before .before .before .before .before .before .before .before .before .before .before .before .before .before .fits .by)) (search needs) (c .before .before .answer-fixed2 .ensures)
+returns-3 c = raised-runs _ _ _ _ _ (c .before .before .before .before .before .before .before .before .before .before .before .before .before .before .before .before .before .before .before .before .held-number .ensures) (c .before .before .before .before .before .before .before .before .before .before .before .before .before .before .before .before .before .before .number .given .1) (toZ-ofZ (record { sfits = c .before .before .before .before .before .before .before .before .before .before .before .before .before .before .before .before .before .known-told .given .0 .1 })) (toZ-ofZ (c .before .before .before .before .before .before .before .before .before .before .before .before .before .before .before .before .before .before .before .before .before .before .before .before .before .before .before .before .fits .by)) (c .before .before .before .before .before .before .before .before .before .before .before .before .before .before .before .before .checked-sum .ensures) (c .before .before .before .before .before .before .before .before .before .before .before .before .before .before .sum .given .1) (toZ-ofZ (record { sfits = c .before .before .before .before .before .before .before .before .before .before .before .before .before .known-told2 .given .0 .1 })) (c .before .before .before .before .before .before .before .before .run-number .ensures)
 
 pub run-counter-spec : {M : Type 1} → statement M
 run-counter-spec =
     tie.close
     (tie.spec
     held-number-requires
-    raised-by-requires
-    enum-known-raised
-    run-number-requires
+    enum-known-number
     enum-told
     answer-fixed-requires
-    enum-told-2
-    answer-fixed-requires-2
     same-length
     same-length-2
     same-length-3
-    same-length-4
     returns
+    checked-sum-requires
+    enum-known-sum
+    enum-told-2
+    answer-fixed-requires-2
+    same-length-4
     same-length-5
     same-length-6
-    same-length-7
     returns-2
+    run-number-requires
+    same-length-7
     same-length-8
     same-length-9
     same-length-10

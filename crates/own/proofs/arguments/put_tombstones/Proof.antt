@@ -1,6 +1,6 @@
 -- `own::arguments::put_tombstones` meets its contract. The invariant: the arguments before i have their tombstones, `Tombstones`. Assumes nothing.
 use Prim.Native.Nat.{_-_}
-use Rattle.own.proofs.ArgumentLaws.{Tombstones, tombstones-none, tombstone-part, tombstone-room, tombstones-more, tombstones-all}
+use Rattle.own.proofs.ArgumentLaws.{part-in, Tombstones, tombstones-none, tombstone-room, tombstones-more, tombstones-all}
 use borrow.Author.Needs.{needs}
 use Rattle.own.proofs.arguments.put_tombstones.Statement.{statement}
 use Rattle.own.proofs.arguments.put_tombstones.Tie as tie
@@ -15,7 +15,7 @@ loop-holds : tie.Need-loop-holds Inv-loop μ-loop
 loop-holds c = search tombstones-none
 
 put-tombstone-requires : tie.Need-put-tombstone-requires Inv-loop μ-loop
-put-tombstone-requires c κs = search (tombstone-part, tombstone-room)
+put-tombstone-requires c κs = search (part-in, tombstone-room)
 
 add-i : tie.Need-add-i Inv-loop μ-loop
 add-i c = search needs

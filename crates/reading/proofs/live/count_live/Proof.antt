@@ -2,7 +2,8 @@
 use Prim.Native.Nat.{_-_}
 use native.Mathlib.Omega.{arith}
 use Rattle.own.specs.Own.{readerOf}
-use Rattle.reading.proofs.Arguments.{Counting, argument-in, counting-none, counting-more, counting-all}
+use Rattle.own.proofs.ArgumentLaws.{part-in}
+use Rattle.reading.proofs.Arguments.{Counting, counting-none, counting-more, counting-all}
 use borrow.Author.Needs.{needs}
 use Rattle.reading.proofs.live.count_live.Statement.{statement}
 use Rattle.reading.proofs.live.count_live.Tie as tie
@@ -20,7 +21,7 @@ mul-key-part : tie.Need-mul-key-part Inv-loop μ-loop
 mul-key-part c = search needs
 
 key-part-requires : tie.Need-key-part-requires Inv-loop μ-loop
-key-part-requires c κs = search argument-in
+key-part-requires c κs = search part-in
 
 live-one-requires : tie.Need-live-one-requires Inv-loop μ-loop
 live-one-requires c κs = search needs

@@ -2,7 +2,7 @@
 use Prim.Native.Nat.{_-_}
 use native.Mathlib.Omega.{arith}
 use Rattle.own.specs.Own.{readerOf}
-use Rattle.reading.proofs.Arguments.{argument-in}
+use Rattle.own.proofs.ArgumentLaws.{part-in}
 use Rattle.reading.proofs.ValueReplies.{ValuesFrom, values-none, values-more, values-all, values-length}
 use borrow.Author.Needs.{needs}
 use Rattle.reading.proofs.values.put_values.Statement.{statement}
@@ -27,7 +27,7 @@ mul-key-part : tie.Need-mul-key-part Inv-loop μ-loop
 mul-key-part c = search needs
 
 key-part-requires : tie.Need-key-part-requires Inv-loop μ-loop
-key-part-requires c κs = search argument-in
+key-part-requires c κs = search part-in
 
 then-value-requires : tie.Need-then-value-requires Inv-loop μ-loop
 then-value-requires c κs = search needs

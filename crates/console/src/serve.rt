@@ -1,0 +1,126 @@
+// The requests of a frame, one call for each; the hexadecimal of their replies is put into a page of output.
+use crate::pieces;
+use crate::pieces::Mark;
+use crate::step;
+use crate::step::Step;
+use registry::request;
+use writing::Put;
+ghost use mathlib.Core.Path.{_≡_};
+ghost use lib.ListN.{length, take};
+ghost use Rattle.calls.specs.Calls.{lentOf};
+ghost use Rattle.calls.specs.Frames.{hex};
+ghost use Rattle.console.specs.Page.{Added, ReplyFits};
+ghost use Rattle.console.specs.Steps.{StepPromise, Serves, SomeServed};
+
+// A page takes one more reply where so much of it is free: the hexadecimal of 32,768 bytes.
+const REPLY_TEXT: usize = 65536;
+
+// How far a frame has come: the place of the next request, whether a reply byte was written, the bytes of the page that are in use,
+// whether the page is full before the frame is over, and the frame's mark.
+pub struct Progress {
+    pub from: usize,
+    pub replied: bool,
+    pub filled: usize,
+    pub full: bool,
+    pub mark: Mark,
+}
+
+// One request call on the bytes that are left.
+fn take_step(
+    session: usize,
+    input: &[u8],
+    places: &mut [u64],
+    words: &mut [u64],
+    bytes: &mut [u8],
+    swords: &mut [u64],
+    sbytes: &mut [u8],
+    reply: &mut [u8],
+) -> Step
+    requires { ⌜ length (now places) ≡ 2048 ⌝ }
+    ensures { λ r. ⌜ StepPromise session (now (input .entry)) (now (reply .entry)) (lentOf (now (words .entry)) (now (bytes .entry)) (now (swords .entry)) (now (sbytes .entry))) r (now (reply .exit)) (lentOf (now (words .exit)) (now (bytes .exit)) (now (swords .exit)) (now (sbytes .exit))) ⌝ }
+{
+    let answer = request::request(session, input, places, words, bytes, swords, sbytes, reply);
+    step::step_of(input, places, answer)
+}
+
+// Puts the hexadecimal of the first `count` bytes of a reply behind the `filled` bytes of the page.
+fn put_reply(page: &mut [u8], filled: usize, reply: &[u8], count: usize) -> usize
+    requires { ⌜ ReplyFits count (now reply) filled (now page) ⌝ }
+    ensures { λ r. ⌜ Added (hex (take count (now (reply .entry)))) filled (now (page .entry)) r (now (page .exit)) ⌝ }
+{
+    let Put::Wrote(n) = pieces::put_hex(&mut page[filled..], &reply[..count]) else {
+        return filled;
+    };
+    filled + n
+}
+
+// Serves the requests of a frame from `begun.from` on until it is over or the page is full.
+pub fn serve_some(
+    session: usize,
+    held: &[u8],
+    begun: Progress,
+    page: &mut [u8],
+    places: &mut [u64],
+    words: &mut [u64],
+    bytes: &mut [u8],
+    swords: &mut [u64],
+    sbytes: &mut [u8],
+    reply: &mut [u8],
+) -> Progress
+    requires { ⌜ Serves session (now held) (begun .from) (begun .filled) (now page) (now places) (now reply) ⌝ }
+    ensures { λ r. ⌜ SomeServed session (now (held .entry)) (begun .from) (begun .replied) (begun .filled) (now (page .entry)) (lentOf (now (words .entry)) (now (bytes .entry)) (now (swords .entry)) (now (sbytes .entry))) r (now (page .exit)) (lentOf (now (words .exit)) (now (bytes .exit)) (now (swords .exit)) (now (sbytes .exit))) ⌝ }
+{
+    let mut from = begun.from;
+    let mut replied = begun.replied;
+    let mut filled = begun.filled;
+    while from < held.len() {
+        if page.len() - filled < REPLY_TEXT {
+            return Progress {
+                from,
+                replied,
+                filled,
+                full: true,
+                mark: Mark::NoMark,
+            };
+        }
+        match take_step(
+            session,
+            &held[from..],
+            places,
+            words,
+            bytes,
+            swords,
+            sbytes,
+            reply,
+        ) {
+            Step::Refused(n) => {
+                return Progress {
+                    from: held.len(),
+                    replied,
+                    filled,
+                    full: false,
+                    mark: Mark::Number(n),
+                };
+            }
+            Step::Waits => return Progress {
+                from,
+                replied,
+                filled,
+                full: false,
+                mark: Mark::NoMark,
+            },
+            Step::Used(used, count) => {
+                filled = put_reply(page, filled, reply, count);
+                replied = step::replied_after(replied, count);
+                from += used;
+            }
+        }
+    }
+    Progress {
+        from,
+        replied,
+        filled,
+        full: false,
+        mark: Mark::NoMark,
+    }
+}

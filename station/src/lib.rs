@@ -1,0 +1,7 @@
+//! The registry's calls as safe functions, and the server over them.
+pub mod core;
+pub mod frames;
+pub mod groups;
+pub mod layout;
+pub mod random;
+pub mod server;

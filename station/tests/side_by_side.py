@@ -1,0 +1,137 @@
+"""side_by_side.py STATION_PORT REDIS_PORT: the same requests to both.
+
+SAME holds lists of steps whose replies are equal, byte by byte. DIFFERENT holds those where document 01 asks for another answer than
+Redis gives, each with the reason and both replies; a case of it whose replies have become equal is an error too. A step is a console
+and its words; `{k}` in a word is a prefix of that case alone, so that no case meets the keys of another.
+"""
+import socket
+import sys
+
+MAX, MIN = "9223372036854775807", "-9223372036854775808"
+
+SAME = [
+    ["0 PING", "0 ECHO hello", "0 ping", "0 PiNg"],
+    ["0 PING text"],
+    ["0 SET {k}a 1", "0 GET {k}a", "0 GET {k}b", "0 SET {k}a", "0 GET", "0 GET {k}a {k}b"],
+    ["0 SET {k}a x", "0 DEL {k}a", "0 GET {k}a", "0 DEL {k}a", "0 DEL", "0 EXISTS {k}a"],
+    ["0 MSET {k}a 1 {k}b 2", "0 MGET {k}a {k}b {k}c", "0 EXISTS {k}a {k}a {k}c", "0 DEL {k}a {k}b {k}c", "0 MGET {k}a"],
+    ["0 MGET", "0 EXISTS", "0 ECHO", "0 ECHO a b", "0 INCR", "0 INCRBY {k}a", "0 DECR", "0 INCR {k}a {k}b"],
+    ["0 INCR {k}n", "0 INCR {k}n", "0 INCRBY {k}n 40", "0 DECR {k}n", "0 GET {k}n", "0 INCRBY {k}n -41", "0 GET {k}n"],
+    ["0 SET {k}n x", "0 INCR {k}n", "0 INCRBY {k}n y", "0 GET {k}n"],
+    ["0 SET {k}n " + MAX, "0 INCR {k}n", "0 GET {k}n", "0 DECR {k}n", "0 INCRBY {k}n 2", "0 GET {k}n"],
+    ["0 SET {k}n " + MIN, "0 DECR {k}n", "0 GET {k}n", "0 INCR {k}n"],
+    ["0 SET {k}n 9223372036854775808", "0 INCR {k}n", "0 INCRBY {k}m 9223372036854775808", "0 GET {k}m"],
+    ["0 MULTI", "0 EXEC", "0 MULTI", "0 DISCARD"],
+    ["0 EXEC", "0 DISCARD"],
+    ["0 MULTI", "0 MULTI", "0 EXEC"],
+    ["0 MULTI", "0 SET {k}a 1", "0 INCR {k}a", "0 GET {k}a", "0 MGET {k}a {k}b", "0 EXEC", "0 GET {k}a"],
+    ["0 MULTI", "0 SET {k}a x", "0 INCR {k}a", "0 SET {k}b y", "0 EXEC", "0 MGET {k}a {k}b"],
+    ["0 MULTI", "0 SET {k}a 1", "0 DISCARD", "0 GET {k}a"],
+    ["0 MULTI", "0 PING", "0 ECHO e", "0 EXISTS {k}a", "0 DEL {k}a", "0 DECR {k}n", "0 INCRBY {k}n 5", "0 MSET {k}a 1 {k}b 2", "0 EXEC"],
+    ["0 WATCH {k}a", "0 MULTI", "0 SET {k}a 1", "0 EXEC", "0 GET {k}a"],
+    ["0 WATCH {k}a", "1 SET {k}a 2", "0 MULTI", "0 SET {k}a 1", "0 EXEC", "0 GET {k}a"],
+    ["0 WATCH {k}a", "0 MULTI", "1 SET {k}a 2", "0 SET {k}b 1", "0 EXEC", "0 GET {k}b"],
+    ["0 WATCH {k}a", "0 SET {k}a 2", "0 MULTI", "0 GET {k}a", "0 EXEC"],
+    ["0 WATCH {k}a {k}b", "1 SET {k}b 2", "0 MULTI", "0 EXEC"],
+    ["0 WATCH {k}a", "1 SET {k}a 2", "0 UNWATCH", "0 MULTI", "0 SET {k}a 1", "0 EXEC", "0 GET {k}a"],
+    ["0 WATCH {k}a", "1 SET {k}a 2", "0 MULTI", "0 DISCARD", "0 MULTI", "0 GET {k}a", "0 EXEC"],
+    ["0 WATCH {k}a", "1 SET {k}b 2", "0 MULTI", "0 GET {k}a", "0 EXEC"],
+    ["0 SET {k}a 1", "0 WATCH {k}a", "1 DEL {k}a", "0 MULTI", "0 EXEC"],
+    ["0 WATCH {k}a", "1 MULTI", "1 SET {k}a 1", "1 EXEC", "0 MULTI", "0 EXEC", "0 MULTI", "0 EXEC"],
+    ["0 MULTI", "0 SET {k}a 1", "1 GET {k}a", "0 EXEC", "1 GET {k}a"],
+    ["0 WATCH", "0 UNWATCH"],
+    ["0 MULTI", "0 WATCH {k}a", "0 PING", "0 EXEC"],
+    ["0 KEYS {k}*", "0 SET {k}one 1", "0 KEYS {k}*", "0 KEYS {k}?ne", "0 KEYS {k}\\one", "0 KEYS"],
+    ["0 SET {k}a b", "0 set {k}a c", "0 GeT {k}a"],
+    ["0 QUIT"],
+]
+
+# Name of the difference in document 01 or in what it takes from the Rust, the steps, and what each side answers to the last step.
+DIFFERENT = [
+    ("unknown command: no list of arguments", ["0 FOO a"], "-ERR unknown command 'FOO'\r\n", "-ERR unknown command 'FOO', with args beginning with: 'a' \r\n"),
+    ("INFO outside MULTI is unknown", ["0 INFO nothing"], "-ERR unknown command 'INFO'\r\n", "$0\r\n\r\n"),
+    ("eleven names may be queued", ["0 MULTI", "0 DBSIZE"], "-ERR 'DBSIZE' can't be used inside MULTI\r\n", "+QUEUED\r\n"),
+    ("UNWATCH inside MULTI marks the session", ["0 MULTI", "0 UNWATCH"], "-ERR 'UNWATCH' can't be used inside MULTI\r\n", "+QUEUED\r\n"),
+    ("argument counts are not looked at when queueing", ["0 MULTI", "0 SET {k}a"], "+QUEUED\r\n", "-ERR wrong number of arguments for 'set' command\r\n"),
+    ("DEL counts a repeated argument twice", ["0 SET {k}a 1", "0 DEL {k}a {k}a"], ":2\r\n", ":1\r\n"),
+    ("a whole number may have a plus sign", ["0 INCRBY {k}n +7"], ":7\r\n", "-ERR value is not an integer or out of range\r\n"),
+    ("a whole number may have leading zeros", ["0 SET {k}n 007", "0 INCR {k}n"], ":8\r\n", "-ERR value is not an integer or out of range\r\n"),
+    ("-0 is 0", ["0 SET {k}n -0", "0 INCR {k}n"], ":1\r\n", "-ERR value is not an integer or out of range\r\n"),
+    ("a later WATCH adds keys to the first snapshot", ["0 WATCH {k}a", "1 SET {k}b 1", "0 WATCH {k}b", "0 MULTI", "0 EXEC"], "*-1\r\n", "*0\r\n"),
+    ("written keys are checked too", ["0 WATCH {k}a", "1 SET {k}b 1", "0 MULTI", "0 SET {k}b 2", "0 EXEC"], "*-1\r\n", "*1\r\n+OK\r\n"),
+    ("EXEC reads at the snapshot", ["0 WATCH {k}a", "1 SET {k}b 1", "0 MULTI", "0 GET {k}b", "0 EXEC"], "*1\r\n$-1\r\n", "*1\r\n$1\r\n1\r\n"),
+    ("inline lines have no quoting", ["0 INLINE ECHO 'a'"], "$3\r\n'a'\r\n", "$1\r\na\r\n"),
+    ("protocol errors have the Rust's text", ["0 RAW *x\r\n"], "-ERR Protocol error: invalid multibulk length 'x'\r\n", "-ERR Protocol error: invalid multibulk length\r\n"),
+    ("RANGE is not of Redis", ["0 RANGE {k}a {k}b"], "*0\r\n", None),
+]
+
+
+class Side:
+    """A server with consoles that are opened when a step first names them."""
+
+    def __init__(self, port):
+        self.port = port
+        self.consoles = {}
+
+    def step(self, console, sent):
+        if console not in self.consoles:
+            s = socket.create_connection(("127.0.0.1", self.port), timeout=10)
+            self.consoles[console] = (s, s.makefile("rb"))
+        s, replies = self.consoles[console]
+        s.sendall(sent)
+        return reply(replies)
+
+    def end(self):
+        for s, replies in self.consoles.values():
+            replies.close()
+            s.close()
+        self.consoles = {}
+
+
+def reply(stream):
+    """The bytes of one reply."""
+    line = stream.readline()
+    if line[:1] == b"$" and line != b"$-1\r\n":
+        return line + stream.read(int(line[1:]) + 2)
+    if line[:1] == b"*":
+        return line + b"".join(reply(stream) for _ in range(max(0, int(line[1:]))))
+    return line
+
+
+def request(text, prefix):
+    console, rest = text.split(" ", 1)
+    rest = rest.replace("{k}", prefix)
+    if rest.startswith("RAW "):
+        return console, rest[4:].encode()
+    if rest.startswith("INLINE "):
+        return console, rest[7:].encode() + b"\r\n"
+    words = rest.split(" ")
+    return console, b"*%d\r\n" % len(words) + b"".join(b"$%d\r\n%s\r\n" % (len(w.encode()), w.encode()) for w in words)
+
+
+def both(station, redis, steps, prefix):
+    """The replies of both to each step."""
+    told = []
+    for step in steps:
+        console, sent = request(step, prefix)
+        told.append((step, station.step(console, sent), redis.step(console, sent)))
+    station.end()
+    redis.end()
+    return told
+
+
+def main():
+    station, redis = Side(int(sys.argv[1])), Side(int(sys.argv[2]))
+    for i, steps in enumerate(SAME):
+        for step, ours, theirs in both(station, redis, steps, f"s{i}:"):
+            if ours != theirs:
+                sys.exit(f"{steps}, at {step}\n station {ours!r}\n redis   {theirs!r}")
+    for i, (why, steps, our_due, their_due) in enumerate(DIFFERENT):
+        step, ours, theirs = both(station, redis, steps, f"d{i}:")[-1]
+        if ours != our_due.encode() or ours == theirs or (their_due is not None and theirs != their_due.encode()):
+            sys.exit(f"{why}: {steps}\n station {ours!r}, due {our_due!r}\n redis   {theirs!r}, due {their_due!r}")
+        print(f"difference: {why}")
+    print(f"side_by_side.py: {len(SAME)} cases with equal replies, {len(DIFFERENT)} with the differences named")
+
+
+main()
