@@ -193,14 +193,55 @@ fn part(bytes: &[u8], start: usize, length: usize) -> &[u8] {
     &bytes[start..end]
 }
 
-/// A store and sixteen sessions in memory of their own, with an argument table and a reply buffer.
+/// A request as an array of bulk strings.
+pub fn array(words: &[impl AsRef<[u8]>]) -> Vec<u8> {
+    let mut out = format!("*{}\r\n", words.len()).into_bytes();
+    for word in words.iter().map(AsRef::as_ref) {
+        out.extend(format!("${}\r\n", word.len()).into_bytes());
+        out.extend_from_slice(word);
+        out.extend(b"\r\n");
+    }
+    out
+}
+
+/// What is lent to a call, with an argument table and a reply buffer.
+#[derive(Clone, PartialEq)]
+pub struct Memory {
+    pub words: Vec<u64>,
+    pub bytes: Vec<u8>,
+    pub session_words: Vec<u64>,
+    pub session_bytes: Vec<u8>,
+    pub places: Vec<u64>,
+    pub reply: Vec<u8>,
+}
+
+impl Memory {
+    /// Zeros: so many words and bytes for a store, sixteen sessions, places for so many arguments, a reply buffer.
+    pub fn zeros(words: usize, bytes: usize, arguments: usize, reply: usize) -> Memory {
+        Memory {
+            words: vec![0; words],
+            bytes: vec![0; bytes],
+            session_words: vec![0; SESSIONS * SESSION_WORDS],
+            session_bytes: vec![0; SESSIONS * SESSION_BYTES],
+            places: vec![0; 2 * arguments],
+            reply: vec![0; reply],
+        }
+    }
+
+    pub fn request(&mut self, session: usize, input: &[u8]) -> Answer {
+        let lent = Lent {
+            words: &mut self.words,
+            bytes: &mut self.bytes,
+            session_words: &mut self.session_words,
+            session_bytes: &mut self.session_bytes,
+        };
+        request(session, input, &mut self.places, lent, &mut self.reply)
+    }
+}
+
+/// A store and sixteen sessions in memory of their own, and how long a reply may be.
 pub struct Registry {
-    words: Vec<u64>,
-    bytes: Vec<u8>,
-    session_words: Vec<u64>,
-    session_bytes: Vec<u8>,
-    places: Vec<u64>,
-    reply: Vec<u8>,
+    memory: Memory,
     most_reply: usize,
 }
 
@@ -219,37 +260,19 @@ impl Registry {
     /// The reply buffer grows up to `most_reply` bytes. `Err` holds a number.
     pub fn open(last: u64, versions: usize, size: usize, arguments: usize, most_reply: usize) -> Result<Registry, u64> {
         let words = versions.checked_mul(VERSION_WORDS).and_then(|rows| rows.checked_add(HEADER_WORDS)).ok_or(9u64)?;
-        let mut registry = Registry {
-            words: vec![0; words],
-            bytes: vec![0; size],
-            session_words: vec![0; SESSIONS * SESSION_WORDS],
-            session_bytes: vec![0; SESSIONS * SESSION_BYTES],
-            places: vec![0; 2 * arguments],
-            reply: vec![0; most_reply.min(65_536)],
-            most_reply,
-        };
-        match open(&mut registry.words, &registry.bytes, last, versions, size) {
-            0 => Ok(registry),
+        let mut memory = Memory::zeros(words, size, arguments, most_reply.min(65_536));
+        match open(&mut memory.words, &memory.bytes, last, versions, size) {
+            0 => Ok(Registry { memory, most_reply }),
             number => Err(number),
         }
     }
 
-    fn call(&mut self, session: usize, input: &[u8]) -> Answer {
-        let lent = Lent {
-            words: &mut self.words,
-            bytes: &mut self.bytes,
-            session_words: &mut self.session_words,
-            session_bytes: &mut self.session_bytes,
-        };
-        request(session, input, &mut self.places, lent, &mut self.reply)
-    }
-
     /// Answers the request at the front of `input`. Number 3 leaves all, so the call is made again with a longer reply buffer.
     pub fn request(&mut self, session: usize, input: &[u8]) -> Done<'_> {
-        let mut answer = self.call(session, input);
-        while answer.number == 3 && self.reply.len() < self.most_reply {
-            self.reply.resize((4 * self.reply.len()).min(self.most_reply), 0);
-            answer = self.call(session, input);
+        let mut answer = self.memory.request(session, input);
+        while answer.number == 3 && self.memory.reply.len() < self.most_reply {
+            self.memory.reply.resize((4 * self.memory.reply.len()).min(self.most_reply), 0);
+            answer = self.memory.request(session, input);
         }
         if answer.number != 0 {
             return Done::Refused(answer.number);
@@ -257,24 +280,24 @@ impl Registry {
         if answer.used == 0 {
             return Done::Waits;
         }
-        let reply = &self.reply[..answer.reply];
-        Done::Answered { used: answer.used, reply, over: is_over(input, &self.places, reply) }
+        let reply = &self.memory.reply[..answer.reply];
+        Done::Answered { used: answer.used, reply, over: is_over(input, &self.memory.places, reply) }
     }
 
     /// Clears a session as the console's own QUIT would.
     pub fn clear(&mut self, session: usize) {
-        let answer = self.call(session, b"QUIT\n");
+        let answer = self.memory.request(session, b"QUIT\n");
         assert_eq!((answer.number, answer.used, answer.reply), (0, 5, 5), "QUIT is always answered");
     }
 
     /// The value of a key at the last sequence.
     pub fn read(&self, name: &[u8]) -> Option<&[u8]> {
-        read(&self.words, &self.bytes, name).expect("an opened store")
+        read(&self.memory.words, &self.memory.bytes, name).expect("an opened store")
     }
 
     /// The live keys, ascending, each with its value.
     pub fn table(&self) -> Vec<(&[u8], &[u8])> {
-        table(&self.words, &self.bytes).expect("an opened store")
+        table(&self.memory.words, &self.memory.bytes).expect("an opened store")
     }
 }
 

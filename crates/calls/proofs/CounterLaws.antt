@@ -10,6 +10,7 @@ use lib.IntN.{ℤ, _+ℤ_}
 use lib.ListN.{length}
 use lib.Signed.{mag}
 use borrow.Author.Tests.{ltb-true}
+use Rattle.server.proofs.CommandLaws.{tombstone-keys}
 use Rattle.key.specs.Keys.{Key, sameKey}
 use Rattle.key.proofs.Keys.{same-refl, same-is}
 use Rattle.number.specs.declared.Number.{Number}
@@ -35,10 +36,6 @@ over-other (w ∷ ws) r k e = go (sameKey (w .0) k) refl e (λ h. over-other ws 
     go : (b : Bool) → sameKey (w .0) k ≡ b → (b || among (keysOf ws) k) ≡ false → (among (keysOf ws) k ≡ false → over ws (overlay w r) k ≡ overlay w r k) → over ws (overlay w r) k ≡ r k
     go true p h ih = let z : _≡_ {A = ℕ} 0 1 = cc in absurd (omega arith)
     go false p h ih = ih h ∙ ap (λ (b : Bool). cond b (w .1) (r k)) p
-
-deleted-keys : (ks : List Key) → keysOf (map tombstone ks) ≡ ks
-deleted-keys [] = refl
-deleted-keys (k ∷ ks) = ap {B = List Key} (λ l. k ∷ l) (deleted-keys ks)
 
 put-keys : (es : List (Entry Value)) → keysOf (map put es) ≡ map (λ (e : Entry Value). e .0) es
 put-keys [] = refl
@@ -99,7 +96,7 @@ module _ (k : Key) where
   unfolding run increment setKeys anyKey
   command-sum (GET j) t n s c e = other-keys [] t n s c refl
   command-sum (SET j v) t n s c e = other-keys ((j, some v) ∷ []) t n s c e
-  command-sum (DEL ks) t n s c e = other-keys (map tombstone ks) t n s c (rw (deleted-keys ks) e)
+  command-sum (DEL ks) t n s c e = other-keys (map tombstone ks) t n s c (rw (tombstone-keys ks) e)
   command-sum (EXISTS ks) t n s c e = other-keys [] t n s c refl
   command-sum (MGET ks) t n s c e = other-keys [] t n s c refl
   command-sum (MSET es) t n s c e = other-keys (map put es) t n s c (rw (put-keys es) e)

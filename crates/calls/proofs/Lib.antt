@@ -19,4 +19,3 @@ pub mod ServeLaws
 pub mod StateClaim
 pub mod StateLaws
 pub mod WatchLaws
-pub mod Worked

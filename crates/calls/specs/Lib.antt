@@ -7,4 +7,3 @@ pub mod Demand3
 pub mod Made
 pub mod Frames
 pub mod Opens
-pub mod Readings

@@ -1,5 +1,5 @@
 -- What a queued command does, from what it means. Assumes nothing.
-use Prim.Native.Nat.{ℕ, _≤_}
+use Prim.Native.Nat.{ℕ, _≤_, _<_}
 use native.Mathlib.Omega.{arith}
 use mathlib.Core.Path.{_≡_, refl, sym, ap, _∙_}
 use mathlib.Core.Bool.{Bool, true, false, cond}
@@ -22,7 +22,8 @@ use Rattle.command.specs.declared.Executed.{Executed as CodeExecuted}
 use Rattle.command.specs.declared.Executed.the-variants.{Runs, Lists}
 use Rattle.command.specs.Meant.{commandMeant, executedMeant, CommandCounted, Counted, ExecutedIs}
 use Rattle.server.specs.declared.errors.Fixed.{Fixed}
-use Rattle.command.specs.declared.Read.the-variants.{Says}
+use Rattle.command.specs.declared.Read.{Read}
+use Rattle.command.specs.declared.Read.the-variants.{Value, Live, Values, Echo, Says, Arity, Unknown, Nothing}
 use Rattle.command.specs.declared.Kind.{Kind}
 use Rattle.command.specs.declared.Kind.the-variants.{Counter, Reads}
 use Rattle.command.specs.Kinds.{kindMeant, kindExecuted, liveReply, readReply, leastRead, pairsEffect, tombstonesEffect, counterEffect, kindEffect, kindChecks, KindCounted, KindIs}
@@ -157,3 +158,26 @@ kind-count e same = ap Counter same ∙ sym (ap kindMeant e)
 pub kind-says : {c : CodeCommand} {f : Fixed} → c ≡ command.Says f → Reads (Says f) ≡ kindMeant c
 unfolding kindMeant
 kind-says e = sym (ap kindMeant e)
+
+-- how many arguments a reply needs
+pub least-one : (q : Read) {count : ℕ} → leastRead q ≤ count → 1 ≤ count
+unfolding leastRead
+least-one Value h = omega arith
+least-one Live h = h
+least-one Values h = h
+least-one Echo h = omega arith
+least-one (Says f) h = h
+least-one Arity h = h
+least-one Unknown h = h
+least-one Nothing h = h
+
+pub least-value : (q : Read) {count : ℕ} → leastRead q ≤ count → q ≡ Value → 1 < count
+unfolding leastRead
+least-value q h e = let m : leastRead q ≡ 2 = ap leastRead e in omega arith
+
+pub least-echo : (q : Read) {count : ℕ} → leastRead q ≤ count → q ≡ Echo → 1 < count
+unfolding leastRead
+least-echo q h e = let m : leastRead q ≡ 2 = ap leastRead e in omega arith
+
+pub least-name : (q : Read) {count : ℕ} → leastRead q ≤ count → 0 < count
+least-name q h = omega (arith, least-one q h)

@@ -14,12 +14,6 @@ use Rattle.command.specs.declared.Executed.{Executed as CodeExecuted}
 use Rattle.command.specs.declared.Executed.the-variants.{Runs, Lists}
 use Rattle.command.specs.Meant.{commandMeant, listingMeant, executedMeant, CommandCounted, ListingCounted, Counted, ExecutedIs}
 
--- the arguments behind the name, by their places
-pub arguments-behind : (count : ℕ) (p : List ℕ) (s : Bytes) → 1 ≤ count → arguments (argumentsAt 0 count p s) ≡ argumentsAt 1 (count - 1) p s
-unfolding argumentsAt
-arguments-behind zero p s h = absurd (omega arith)
-arguments-behind (suc n) p s h = let e : n ≡ suc n - 1 = omega arith in ap (λ (m : ℕ). argumentsAt 1 m p s) e
-
 module _ {a : Args} {count : ℕ} {r : CodeExecuted} (e : ExecutedIs a count r) where
   -- the command of a queued request
   pub queued-command : commandOf a ≡ commandIn (executedMeant r a)

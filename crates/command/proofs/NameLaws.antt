@@ -14,6 +14,7 @@ use lib.ListN.{length, getD, List·getD-map}
 use mir.Syntax.{w64}
 use mir.Val.{SFits}
 use mir.ValLaws.{toZ-ofZ}
+use Rattle.key.proofs.Bytes.{both-parts}
 use Rattle.key.specs.Bytes.{Bytes}
 use Rattle.resp.specs.Reply.{BulkString}
 use Rattle.number.specs.declared.Number.{Number}
@@ -47,11 +48,6 @@ name-first : (a : Args) → argument 0 a ≡ nameWord a
 name-first [] = refl
 name-first (n ∷ a) = refl
 
--- A RIGHT ARGUMENT COUNT is within the row's limits.
-both : (a b : Bool) → a && b ≡ true → (a ≡ true) × (b ≡ true)
-both true b e = (refl, e)
-both false b e = absurd (false≢true e)
-
 either : (a b : Bool) → a ≡ true → not a || b ≡ true → b ≡ true
 either true b h e = e
 either false b h e = absurd (false≢true h)
@@ -59,16 +55,16 @@ either false b h e = absurd (false≢true h)
 module _ (r : Row) (n : ℕ) (right : countRight r n ≡ true) where
   right-least : r .least ≤ n
   unfolding countRight
-  right-least = leb-true (r .least) n (both (leb (r .least) n) (notAbove n (r .most)) (both _ (not (r .pairs) || eqb (n % 2) 0) right .0) .0)
+  right-least = leb-true (r .least) n (both-parts (leb (r .least) n) (notAbove n (r .most)) (both-parts _ (not (r .pairs) || eqb (n % 2) 0) right .0) .0)
 
   right-most : (m : ℕ) → r .most ≡ some m → n ≤ m
   unfolding countRight
   right-most m e =
-      leb-true n m (ap (notAbove n) (sym e) ∙ both (leb (r .least) n) (notAbove n (r .most)) (both _ (not (r .pairs) || eqb (n % 2) 0) right .0) .1)
+      leb-true n m (ap (notAbove n) (sym e) ∙ both-parts (leb (r .least) n) (notAbove n (r .most)) (both-parts _ (not (r .pairs) || eqb (n % 2) 0) right .0) .1)
 
   right-pairs : r .pairs ≡ true → n % 2 ≡ 0
   unfolding countRight
-  right-pairs e = eqb-true (n % 2) 0 (either (r .pairs) _ e (both (leb (r .least) n && notAbove n (r .most)) (not (r .pairs) || eqb (n % 2) 0) right .1))
+  right-pairs e = eqb-true (n % 2) 0 (either (r .pairs) _ e (both-parts (leb (r .least) n && notAbove n (r .most)) (not (r .pairs) || eqb (n % 2) 0) right .1))
 
 -- SET, by its argument count.
 module _ {count : ℕ} (least : 3 ≤ count) where

@@ -1,6 +1,5 @@
 // Arguments as parts of lent bytes, and the words that options begin with.
 use batch::parts;
-use encode::clean;
 ghost use mathlib.Core.Path.{_≡_};
 ghost use Prim.Native.Nat.{_<_};
 ghost use Rattle.server.specs.Names.{sameName};

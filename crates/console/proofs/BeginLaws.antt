@@ -10,24 +10,24 @@ use lib.ListN.{length, take, length-append}
 use borrow.Author.Tests.{leb-true, lt-ltb, le-ltb}
 use Rattle.key.specs.Bytes.{Bytes, part}
 use Rattle.calls.specs.Frames as F
-use Rattle.console.specs.declared.line.Given.{Given}
-use Rattle.console.specs.declared.line.Given.the-variants.{Frame, Malformed}
-use Rattle.console.specs.declared.pieces.Mark.{Mark}
-use Rattle.console.specs.declared.pieces.Mark.the-variants.{Number, Dropped}
-use Rattle.console.specs.declared.rest.Kept.{Kept}
-use Rattle.console.specs.declared.rest.Kept.the-variants.{Bytes as Count, TooLong}
+use Rattle.lines.specs.declared.line.Given.{Given}
+use Rattle.lines.specs.declared.line.Given.the-variants.{Frame, Malformed}
+use Rattle.lines.specs.declared.pieces.Mark.{Mark}
+use Rattle.lines.specs.declared.pieces.Mark.the-variants.{Number, Dropped}
+use Rattle.lines.specs.declared.rest.Kept.{Kept}
+use Rattle.lines.specs.declared.rest.Kept.the-variants.{Bytes as Count, TooLong}
 use Rattle.console.specs.declared.serve.Progress.{Progress}
 use Rattle.console.specs.declared.frame.Begun.{Begun}
 use Rattle.console.specs.declared.frame.Begun.the-variants.{Answered, Serve}
-use Rattle.console.specs.Pieces.{MarkFits, headText, endText, malformedText}
-use Rattle.console.specs.Line.{givenAs}
-use Rattle.console.specs.Held.{Memory, countAt, heldAt, slotOf, FrameRead, RestAt, RestKept}
-use Rattle.console.specs.Rest.{keptOf}
-use Rattle.console.specs.Served.{markAfter}
+use Rattle.lines.specs.Pieces.{MarkFits, headText, endText, malformedText}
+use Rattle.lines.specs.Line.{givenAs}
+use Rattle.lines.specs.Held.{Memory, countAt, heldAt, slotOf, FrameRead, RestAt, RestKept}
+use Rattle.lines.specs.Rest.{keptOf}
+use Rattle.lines.specs.Served.{markAfter}
 use Rattle.console.specs.Page.{Added, Free}
 use Rattle.console.specs.Lines.{refusedText, beginText, filledOf, begunAs, Begins, markKept, restIn, Ends}
-use Rattle.console.proofs.HeldLaws.{session-is, input-size}
-use Rattle.console.proofs.RestLaws.{part-length}
+use Rattle.lines.proofs.HeldLaws.{session-is, input-size}
+use Rattle.lines.proofs.RestLaws.{part-length}
 
 -- WHAT A LINE OF THE FORM TELLS
 pub record GivenBounds (g : F.Given) : Type 0 where

@@ -12,22 +12,22 @@ use borrow.Author.Tests.{ltb-true, ltb-false}
 use Rattle.key.specs.Bytes.{Bytes, part}
 use Rattle.calls.specs.Calls.{Lent, valid}
 use Rattle.calls.specs.Frames as F
-use Rattle.console.specs.declared.pieces.Mark.{Mark}
-use Rattle.console.specs.declared.pieces.Mark.the-variants.{Number}
+use Rattle.lines.specs.declared.pieces.Mark.{Mark}
+use Rattle.lines.specs.declared.pieces.Mark.the-variants.{Number}
 use Rattle.console.specs.declared.serve.Progress.{Progress}
 use Rattle.console.specs.declared.frame.Begun.{Begun}
 use Rattle.console.specs.declared.frame.Begun.the-variants.{Answered as Put, Serve}
-use Rattle.console.specs.Pieces.{headText, endText, malformedText}
-use Rattle.console.specs.Held.{countAt, heldAt, restsIn}
-use Rattle.console.specs.Rest.{restOf}
+use Rattle.lines.specs.Pieces.{headText, endText, malformedText}
+use Rattle.lines.specs.Held.{countAt, heldAt, restsIn}
+use Rattle.lines.specs.Rest.{restOf}
 use Rattle.console.specs.Page.{Added}
-use Rattle.console.specs.Served.{stateIn, requestsLeft, orSome, Serving, FrameServed, markAfter, Answered}
+use Rattle.lines.specs.Served.{stateIn, requestsLeft, orSome, Serving, FrameServed, markAfter, Answered}
 use Rattle.console.specs.Steps.{Paused, Over, Reached, SomeServed}
 use Rattle.console.specs.Lines.{refusedText, beginText, begunAs, Begins, restIn, Ends}
 use Rattle.console.specs.Turns.{outputOf, consoleIn, Turns, over, again, FrameCalls, LineCalls, answered, served, LineAnswered}
-use Rattle.console.proofs.HeldLaws.{rest-of, rests-many}
-use Rattle.console.proofs.ServedLaws.{serving-last}
-use Rattle.console.proofs.FrameLaws.{frame-answered, frame-refused, malformed-line}
+use Rattle.lines.proofs.HeldLaws.{rest-of, rests-many}
+use Rattle.lines.proofs.ServedLaws.{serving-last}
+use Rattle.lines.proofs.FrameLaws.{frame-answered, frame-refused, malformed-line}
 use Rattle.console.proofs.BeginLaws.{given-bounds}
 
 -- THE OUTPUT in front of the page

@@ -9,18 +9,18 @@ use lib.Seq.{take-at, length-take-le}
 use borrow.Rule.Slice.PartMut.{same-len-mid}
 use Rattle.key.specs.Bytes.{Bytes}
 use Rattle.number.specs.Decimal.{digits}
-use Rattle.direct.proofs.Lengths.{digits-few}
+use Rattle.verdict.proofs.Lengths.{digits-few}
 use Rattle.writing.specs.declared.Put.{Put}
 use Rattle.writing.specs.declared.Put.the-variants.{Wrote, Full}
 use Rattle.writing.specs.Puts.{Puts}
 use Rattle.writing.proofs.Lent.{rest, with-rest, rest-is, with-rest-is}
 use Rattle.writing.proofs.Puts.{was-wrote, was-full, length-kept}
 use Rattle.calls.specs.Frames.{hex}
-use Rattle.console.specs.declared.pieces.Mark.{Mark}
-use Rattle.console.specs.declared.pieces.Mark.the-variants.{NoMark, Number, Dropped}
-use Rattle.console.specs.Pieces.{MarkFits, headText, numberText, markOrDash, endText, malformedText}
+use Rattle.lines.specs.declared.pieces.Mark.{Mark}
+use Rattle.lines.specs.declared.pieces.Mark.the-variants.{NoMark, Number, Dropped}
+use Rattle.lines.specs.Pieces.{MarkFits, headText, numberText, markOrDash, endText, malformedText}
 use Rattle.console.specs.Page.{Added, ReplyFits, Free}
-use Rattle.console.proofs.AnswerLaws.{hex-length}
+use Rattle.lines.proofs.AnswerLaws.{hex-length}
 
 module _ {text last : Bytes} (page : Bytes) (filled : ℕ) {put : Put} (p : Puts text (rest filled page) put last) where
   rest-length : length (rest filled page) ≡ length page - filled

@@ -16,18 +16,18 @@ use Rattle.resp.specs.Request.{readRequest}
 use Rattle.server.specs.declared.Answer.{Answer}
 use Rattle.calls.specs.Calls.{Lent, valid, RequestPromise}
 use Rattle.calls.specs.Frames.{closes, hex}
-use Rattle.console.specs.declared.pieces.Mark.{Mark}
-use Rattle.console.specs.declared.pieces.Mark.the-variants.{NoMark, Number}
+use Rattle.lines.specs.declared.pieces.Mark.{Mark}
+use Rattle.lines.specs.declared.pieces.Mark.the-variants.{NoMark, Number}
 use Rattle.console.specs.declared.step.Step.{Step}
 use Rattle.console.specs.declared.step.Step.the-variants.{Refused, Waits, Used}
-use Rattle.console.specs.Pieces.{MarkFits}
-use Rattle.console.specs.Served.{Serving, FrameServed, orSome}
+use Rattle.lines.specs.Pieces.{MarkFits}
+use Rattle.lines.specs.Served.{Serving, FrameServed, orSome}
 use Rattle.console.specs.declared.serve.Progress.{Progress}
 use Rattle.console.specs.Steps.{doneWith, stepOf, repliedAfter, StepPromise, Stepping, Reached, Paused, Over, SomeServed, Serves}
 use Rattle.console.specs.Page.{Added, ReplyFits}
 use Rattle.writing.proofs.Lent.{rest}
-use Rattle.console.proofs.LineLaws.{lent-is}
-use Rattle.console.proofs.ServedLaws.{serving-start, serving-end, serving-last, serving-more, serving-number, serving-waits, serving-used, told-some, told-none, reply-short}
+use Rattle.lines.proofs.LineLaws.{lent-is}
+use Rattle.lines.proofs.ServedLaws.{serving-start, serving-end, serving-last, serving-more, serving-number, serving-waits, serving-used, told-some, told-none, reply-short}
 
 -- WHAT IS DONE WITH
 pub done-all : (s : Bytes) {used : ℕ} → length s ≤ used → length s ≡ doneWith s used

@@ -8,17 +8,17 @@ use lib.Dec.{ltb}
 use lib.ListN.{length, set}
 use Rattle.key.specs.Bytes.{Bytes, part}
 use Rattle.calls.specs.Frames as F
-use Rattle.console.specs.declared.pieces.Mark.{Mark}
-use Rattle.console.specs.declared.pieces.Mark.the-variants.{Number, Dropped}
-use Rattle.console.specs.declared.rest.Kept.{Kept}
-use Rattle.console.specs.declared.rest.Kept.the-variants.{Bytes as Count, TooLong}
+use Rattle.lines.specs.declared.pieces.Mark.{Mark}
+use Rattle.lines.specs.declared.pieces.Mark.the-variants.{Number, Dropped}
+use Rattle.lines.specs.declared.rest.Kept.{Kept}
+use Rattle.lines.specs.declared.rest.Kept.the-variants.{Bytes as Count, TooLong}
 use Rattle.console.specs.declared.serve.Progress.{Progress}
 use Rattle.console.specs.declared.frame.Begun.{Begun}
 use Rattle.console.specs.declared.frame.Begun.the-variants.{Answered, Serve}
-use Rattle.console.specs.Pieces.{headText, endText, malformedText}
-use Rattle.console.specs.Held.{countAt, heldAt, restsIn}
-use Rattle.console.specs.Rest.{restOf}
-use Rattle.console.specs.Served.{markAfter}
+use Rattle.lines.specs.Pieces.{headText, endText, malformedText}
+use Rattle.lines.specs.Held.{countAt, heldAt, restsIn}
+use Rattle.lines.specs.Rest.{restOf}
+use Rattle.lines.specs.Served.{markAfter}
 use Rattle.console.specs.Page.{Added}
 
 -- the line of a session above 15

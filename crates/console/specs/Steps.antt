@@ -10,8 +10,8 @@ use Rattle.resp.specs.Request.{readRequest}
 use Rattle.server.specs.declared.Answer.{Answer}
 use Rattle.calls.specs.Calls.{Lent, valid, RequestPromise}
 use Rattle.calls.specs.Frames.{closes}
-use Rattle.console.specs.Pieces.{MarkFits}
-use Rattle.console.specs.Served.{Serving, FrameServed}
+use Rattle.lines.specs.Pieces.{MarkFits}
+use Rattle.lines.specs.Served.{Serving, FrameServed}
 use Rattle.console.specs.declared.serve.Progress.{Progress}
 use Rattle.console.specs.declared.step.Step.{Step}
 use Rattle.console.specs.declared.step.Step.the-variants.{Refused, Waits, Used}

@@ -10,8 +10,8 @@ use Rattle.calls.specs.Frames.{Console, frame}
 use Rattle.console.specs.declared.serve.Progress.{Progress}
 use Rattle.console.specs.declared.frame.Begun.{Begun}
 use Rattle.console.specs.declared.frame.Begun.the-variants.{Answered, Serve}
-use Rattle.console.specs.Served.{stateIn}
-use Rattle.console.specs.Held.{restsIn}
+use Rattle.lines.specs.Served.{stateIn}
+use Rattle.lines.specs.Held.{restsIn}
 use Rattle.console.specs.Steps.{SomeServed}
 use Rattle.console.specs.Lines.{Begins, Ends}
 

@@ -1,16 +1,16 @@
 // A line: its answer is begun behind the bytes of the page that are in use, and ended behind the replies.
-use crate::held;
-use crate::line::Given;
-use crate::pieces;
-use crate::pieces::Mark;
-use crate::rest::Kept;
 use crate::serve::Progress;
+use lines::held;
+use lines::line::Given;
+use lines::pieces;
+use lines::pieces::Mark;
+use lines::rest::Kept;
 use writing::Put;
 ghost use mathlib.Core.Path.{_≡_};
 ghost use Prim.Native.Nat.{_<_};
-ghost use Rattle.console.specs.Pieces.{MarkFits, headText, endText, malformedText};
+ghost use Rattle.lines.specs.Pieces.{MarkFits, headText, endText, malformedText};
 ghost use Rattle.console.specs.Page.{Added, Free};
-ghost use Rattle.console.specs.Held.{Memory, RestAt};
+ghost use Rattle.lines.specs.Held.{Memory, RestAt};
 ghost use Rattle.console.specs.Lines.{refusedText, markKept, Begins, Ends};
 
 // A line whose whole answer is put, with the bytes of the page in use; or a frame to serve: its session, the end of its bytes in the

@@ -1,8 +1,8 @@
 // The requests of a frame, one call for each; the hexadecimal of their replies is put into a page of output.
-use crate::pieces;
-use crate::pieces::Mark;
 use crate::step;
 use crate::step::Step;
+use lines::pieces;
+use lines::pieces::Mark;
 use registry::request;
 use writing::Put;
 ghost use mathlib.Core.Path.{_≡_};

@@ -1,5 +1,5 @@
 // One request of a frame: what its call answered, as the loop over the frame's requests goes on.
-use crate::quit;
+use lines::quit;
 use server::Answer;
 ghost use mathlib.Core.Path.{_≡_};
 ghost use lib.ListN.{length};

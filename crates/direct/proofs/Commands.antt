@@ -9,6 +9,7 @@ use mathlib.Core.Option.{some}
 use lib.ListN.{length, getD, take, drop, replicate, length-map}
 use lib.Seq.{take-at}
 use lib.Signed.{mag}
+use Rattle.key.proofs.Bytes.{length-part}
 use Rattle.key.specs.Bytes.{Bytes, total}
 use Rattle.key.specs.Keys.{Key}
 use Rattle.number.specs.Decimal.{decimal}
@@ -30,19 +31,18 @@ use Rattle.number.specs.declared.Number.the-variants.{Int, Bad}
 use Rattle.number.specs.Number.{numberOf}
 use Rattle.reading.proofs.Counters.{raised-bad, raised-over, raised-to}
 use Rattle.server.specs.declared.errors.Fixed.the-variants.{Ok, NotInteger, Overflow}
-use Rattle.direct.specs.Reading.{lastReader, LiveIs}
+use Rattle.verdict.specs.Reading.{lastReader, LiveIs}
 use Rattle.server.specs.Command.{Effect, put, pairsOf, live, held, raised}
 use Rattle.server.specs.Errors.{fixedReply}
 use Rattle.server.specs.Places.{argumentsAt, lengthsAt, PartsIn}
-use Rattle.server.proofs.Parts.{length-part}
 use Rattle.server.proofs.PlaceLaws.{arguments-count}
-use Rattle.direct.specs.Writes.{argumentIn, tombstonesAt, pairsAt, RoomForAll, HeaderIn, verdictLeft, verdictAnswer}
+use Rattle.verdict.specs.Writes.{argumentIn, tombstonesAt, pairsAt, RoomForAll, HeaderIn, verdictLeft, verdictAnswer}
 use Rattle.answer.specs.Answers.{putAnswer}
-use Rattle.direct.specs.Served.{bufferAfter, Runs, Admitted, deletion, counted, integerText, AdmittedText, RunsText}
-use Rattle.direct.proofs.Writes.{pair-room, pair-words, pair-bytes}
+use Rattle.verdict.specs.Served.{bufferAfter, Runs, Admitted, deletion, counted, integerText, AdmittedText, RunsText}
+use Rattle.verdict.proofs.Writes.{pair-room, pair-words, pair-bytes}
 use Rattle.answer.proofs.Finish.{Cleared}
-use Rattle.direct.proofs.Lengths.{decimal-few}
-use Rattle.direct.proofs.Served.{verdict-is, accepted-room, runs-written, runs-refused, runs-quiet, answer-accepted}
+use Rattle.verdict.proofs.Lengths.{decimal-few}
+use Rattle.verdict.proofs.Served.{verdict-is, accepted-room, runs-written, runs-refused, runs-quiet, answer-accepted}
 
 pub header-in : {w b : List ℕ} → Valid w b → HeaderIn w
 header-in v = record { header-in = omega (arith, v .words-hold); count-fits = v .count-fits; used-fits = v .used-fits }

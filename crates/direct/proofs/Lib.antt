@@ -1,7 +1,2 @@
 -- The laws of this crate.
 pub mod Commands
-pub mod Commits
-pub mod Lengths
-pub mod Reading
-pub mod Served
-pub mod Writes

@@ -1,10 +1,9 @@
 // The commands outside MULTI that write nothing: the reply is put, and the answer is made of it.
-use crate::read;
-use crate::room;
 use encode::reply;
 use server::Answer;
-use server::errors;
 use server::errors::Fixed;
+use verdict::read;
+use verdict::room;
 ghost use mathlib.Core.Path.{_≡_};
 ghost use mathlib.Core.List.{[]};
 ghost use lib.IntN.{pos};
@@ -16,8 +15,8 @@ ghost use Rattle.memtable.specs.Rows.{Valid};
 ghost use Rattle.server.specs.Command.{unknownCommand, live};
 ghost use Rattle.server.specs.Errors.{fixedReply, arityOf};
 ghost use Rattle.server.specs.Places.{argumentsAt, PartsIn};
-ghost use Rattle.direct.specs.Reading.{lastReader, valuesReply};
-ghost use Rattle.direct.specs.Served.{Runs};
+ghost use Rattle.verdict.specs.Reading.{lastReader, valuesReply};
+ghost use Rattle.verdict.specs.Served.{Runs};
 
 // GET.
 pub fn answer_value(name: &[u8], used: usize, words: &[u64], bytes: &[u8], out: &mut [u8]) -> Answer

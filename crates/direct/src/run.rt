@@ -1,16 +1,13 @@
 // The commands that write: the reply is put, the verdict is found, and an accepted command whose reply fits commits.
-use crate::commit;
-use crate::read;
 use crate::replies;
-use crate::room;
-use memtable::commit as store;
-use memtable::open;
 use number::Number;
-use number::decimal;
 use number::integer;
 use server::Answer;
-use server::errors;
 use server::errors::Fixed;
+use store::open;
+use verdict::commit;
+use verdict::read;
+use verdict::room;
 use writing::Put;
 ghost use mathlib.Core.Path.{_≡_};
 ghost use Prim.Native.Nat.{_+_, _*_, _^_, _≤_, _<_};
@@ -20,10 +17,10 @@ ghost use Rattle.resp.specs.Reply.{ok};
 ghost use Rattle.memtable.specs.Layout.{lastWord};
 ghost use Rattle.memtable.specs.Rows.{Valid};
 ghost use Rattle.server.specs.Command.{held, raised};
-ghost use Rattle.direct.specs.Reading.{lastReader};
+ghost use Rattle.verdict.specs.Reading.{lastReader};
 ghost use Rattle.server.specs.Places.{PartsIn};
-ghost use Rattle.direct.specs.Writes.{pairsAt};
-ghost use Rattle.direct.specs.Served.{Runs, Admitted, deletion, counted, integerText, AdmittedText, RunsText};
+ghost use Rattle.verdict.specs.Writes.{pairsAt};
+ghost use Rattle.verdict.specs.Served.{Runs, Admitted, deletion, counted, integerText, AdmittedText, RunsText};
 
 // SET and MSET before their commit: `pairs` keys and values in turn, from place 1 on.
 fn admit_pairs(
@@ -162,7 +159,7 @@ fn run_text(
 {
     let answer = admit_text(name, text, used, words, bytes, out);
     if answer.number == 0 {
-        store::commit_one(words, bytes, name, text, true);
+        store::commit::commit_one(words, bytes, name, text, true);
         return answer;
     }
     answer

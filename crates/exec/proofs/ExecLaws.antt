@@ -13,7 +13,6 @@ use Rattle.key.specs.Keys.{Key}
 use Rattle.key.proofs.Bytes.{and-left, and-right}
 use Rattle.writing.specs.declared.Put.{Put}
 use Rattle.writing.specs.Puts.{Puts}
-use Rattle.writing.proofs.Puts.{length-kept}
 use Rattle.resp.specs.Reply.{NilArray, array, head, encode}
 use Rattle.memtable.specs.Table.{Write}
 use Rattle.memtable.specs.Versions.{Store, moved, commit}
@@ -33,11 +32,11 @@ use Rattle.server.specs.Finish.{finish}
 use Rattle.server.proofs.SessionLaws.{ranBy, execute-failed}
 use Rattle.sessions.proofs.Kept.{held-by-tests, keys-held, queue-count}
 use Rattle.own.specs.Own.{ownWrites}
-use Rattle.exec.specs.declared.Walked.{Walked}
-use Rattle.exec.specs.Progress.{Progress, begun, advanceAll}
-use Rattle.exec.specs.Walks.{commandsIn, QueueRan}
+use Rattle.inside.specs.declared.Walked.{Walked}
+use Rattle.inside.specs.Progress.{Progress, begun, advanceAll}
+use Rattle.inside.specs.Walks.{commandsIn, QueueRan}
 use Rattle.exec.specs.Leaving.{LaidOut, ReadsAt, Leaves, execServed, Closes, concluded, Concludes, NilCloses, ExecReady}
-use Rattle.exec.proofs.Progress.{ended, hasMoved, execute-conflict, execute-no-room, execute-no-sequence, execute-accepted, replies-are}
+use Rattle.inside.proofs.Progress.{ended, hasMoved, execute-conflict, execute-no-room, execute-no-sequence, execute-accepted, replies-are}
 
 -- THE SEQUENCE
 module _ (s w : List ℕ) {c : ℕ} (c-is : c ≡ getD s 3 0) where
@@ -87,14 +86,6 @@ unfolding sessionFrom fixedReply
 exec-failed last s sb w b used out o ok v z f-is f-yes p c =
     served-by s sb w b used out (execute-failed (queueIn s sb) (storeIn w b) (sessionFrom s sb) (sym f-is ∙ f-yes))
     (c .leaves execAbort w b out _ sb v z p (held-by-tests last s sb o ok))
-
--- `*-1`
-pub nil-closes : (used : ℕ) (mid s : List ℕ) {clean : Bytes} {put : Put} {out′ : Bytes} {s′ : List ℕ} {r : Answer} → clean ≡ replicate (length mid) 0 → Puts (encode NilArray) clean put out′ → Closes put used s s′ r
-    → NilCloses used mid s s′ r out′
-nil-closes used mid s {clean} {put} {out′} c-is p c = record {
-  leaves = λ w b out sb v z l h. c .leaves NilArray w b out out′ sb v z
-      (subst (λ (x : Bytes). Puts (encode NilArray) x put out′) (c-is ∙ ap (λ (n : ℕ). replicate n 0) l ∙ sym z) p) h;
-}
 
 same-keys : (o : Option Watching) → watchedKeys o ≡ keysHeld o
 same-keys none = refl
@@ -150,16 +141,17 @@ exec-ready last s sb w b out o ok v z f-is f-no at t-is t-no = record {
     go (suc n) e = let x : _≡_ {A = ℕ} 0 1 = cc in absurd (omega arith)
 
 -- AFTER THE QUEUE
-concluded-is : (q : List Args) (st : Store) (s : Session) → s .failed ≡ false → hasMoved q st s ≡ false
-    → execute q st s ≡ concluded (array (ranBy q st s .replies)) st s (ended q st s .writes)
+concluded-is : (q : List Args) (st : Store) (s : Session) → s .failed ≡ false → execute q st s ≡ concluded (hasMoved q st s) (array (ranBy q st s .replies)) st s (ended q st s .writes)
 unfolding concluded
-concluded-is q st s f m = go (hasRoom st (ended q st s .writes)) refl (hasSequences st (ended q st s .writes)) refl
+concluded-is q st s f = go (hasMoved q st s) refl (hasRoom st (ended q st s .writes)) refl (hasSequences st (ended q st s .writes)) refl
   where
-    go : (r : Bool) → hasRoom st (ended q st s .writes) ≡ r → (n : Bool) → hasSequences st (ended q st s .writes) ≡ n
-        → execute q st s ≡ cond (hasRoom st (ended q st s .writes)) (cond (hasSequences st (ended q st s .writes)) (says (array (ranBy q st s .replies)) (commit (ended q st s .writes) st) clear) (returns 7 st s)) (returns 6 st s)
-    go false e n g = execute-no-room q st s f m e ∙ sym (rw e)
-    go true e false g = execute-no-sequence q st s f m e g ∙ sym (rw (e, g))
-    go true e true g = execute-accepted q st s f m e g ∙ sym (rw (e, g))
+    go : (m : Bool) → hasMoved q st s ≡ m → (r : Bool) → hasRoom st (ended q st s .writes) ≡ r → (n : Bool) → hasSequences st (ended q st s .writes) ≡ n
+        → execute q st s
+        ≡ cond (hasMoved q st s) (says NilArray st clear) (cond (hasRoom st (ended q st s .writes)) (cond (hasSequences st (ended q st s .writes)) (says (array (ranBy q st s .replies)) (commit (ended q st s .writes) st) clear) (returns 7 st s)) (returns 6 st s))
+    go true m r e n g = execute-conflict q st s f m ∙ sym (rw m)
+    go false m false e n g = execute-no-room q st s f m e ∙ sym (rw (m, e))
+    go false m true e false g = execute-no-sequence q st s f m e g ∙ sym (rw (m, e, g))
+    go false m true e true g = execute-accepted q st s f m e g ∙ sym (rw (m, e, g))
 
 length-commands : (q : List Args) → length (map commandOf q) ≡ length q
 length-commands [] = refl
@@ -176,27 +168,20 @@ module _ (s : List ℕ) (sb : Bytes) (w b : List ℕ) (seq used : ℕ) (out : By
       moved-as s sb w b seq (x .held) (x .reads)
       ∙ (λ z. x .unmoved z || sym (ran .conflict-is ∙ ap (λ (e : Progress). e .conflict) progress-is) z)
 
-  pub exec-conflict : {out′ : Bytes} {s′ : List ℕ} {r : Answer} → a .conflict ≡ true → NilCloses used mid s s′ r out′
-      → Leaves (execServed (length out) used s sb w b) out w b s sb r out′ w b s′
-  exec-conflict e c =
-      served-by s sb w b used out
-      (execute-conflict (queueIn s sb) (storeIn w b) (sessionFrom s sb) (unmarked-is s sb (x .unmarked)) (conflict-as ∙ e))
-      (c .leaves w b out sb (x .valid) (x .cleared) (length-kept (ran .puts)) (x .held))
-
   reply-is : head 42 (getD s 4 0) ++ advanceAll seq (versionsIn w b) (commandsIn s p′ (take in-use d₁)) begun .replies
       ≡ encode (array (ranBy (queueIn s sb) (storeIn w b) (sessionFrom s sb) .replies))
   reply-is =
       (λ z. head 42 (sym (length-commands (queueIn s sb) ∙ queue-count (x .held)) z) ++ progress-is z .replies)
       ∙ sym (replies-are (queueIn s sb) (storeIn w b) (sessionFrom s sb))
 
-  pub exec-concluded : {out′ : Bytes} {w′ b′ s′ : List ℕ} {r : Answer} → a .conflict ≡ false → Concludes (ownWrites own′ (take (a .used) d₂) (a .rows)) (a .put) used w b s mid w′ b′ s′ out′ r
+  pub exec-concluded : {out′ : Bytes} {w′ b′ s′ : List ℕ} {r : Answer} → Concludes (a .conflict) (ownWrites own′ (take (a .used) d₂) (a .rows)) (a .put) used w b s mid w′ b′ s′ out′ r
       → Leaves (execServed (length out) used s sb w b) out w b s sb r out′ w′ b′ s′
-  exec-concluded e c =
+  exec-concluded c =
       let ws-is : ended (queueIn s sb) (storeIn w b) (sessionFrom s sb) .writes ≡ ownWrites own′ (take (a .used) d₂) (a .rows) =
       sym (ran .writes ∙ ap (λ (p : Progress). p .writes) progress-is) in
       served-by s sb w b used out
-      (concluded-is (queueIn s sb) (storeIn w b) (sessionFrom s sb) (unmarked-is s sb (x .unmarked)) (conflict-as ∙ e)
-      ∙ ap (λ (ws : List Write). concluded (array (ranBy (queueIn s sb) (storeIn w b) (sessionFrom s sb) .replies)) (storeIn w b) (sessionFrom s sb) ws) ws-is)
+      (concluded-is (queueIn s sb) (storeIn w b) (sessionFrom s sb) (unmarked-is s sb (x .unmarked))
+      ∙ (λ z. concluded (conflict-as z) (array (ranBy (queueIn s sb) (storeIn w b) (sessionFrom s sb) .replies)) (storeIn w b) (sessionFrom s sb) (ws-is z)))
       (c .leaves (array (ranBy (queueIn s sb) (storeIn w b) (sessionFrom s sb) .replies)) out sb (x .cleared)
       (subst (λ (t : Bytes). Puts t out (a .put) mid) reply-is (ran .puts)) (x .held))
 

@@ -6,26 +6,23 @@ use mathlib.Core.Bool.{true}
 use mathlib.Core.List.{List, [], _∷_, _++_, map}
 use lib.ListN.{length, getD, take, drop, length-append, length-drop, take-append-drop}
 use lib.Seq.{take-at, length-take-le}
+use Rattle.memtable.specs.Moves.{putAt}
+use Rattle.key.proofs.Bytes.{length-part}
+use Rattle.server.proofs.PlaceLaws.{places-length}
 use Rattle.key.specs.Bytes.{Bytes, part, concat, total}
 use Rattle.server.specs.Names.{Args}
 use Rattle.server.specs.Command.{commandOf}
 use Rattle.server.specs.Sessions.{splitBy, allPositive, queueIn}
 use Rattle.server.specs.Lent.{capped}
-use Rattle.server.specs.Held.{Held, written}
+use Rattle.server.specs.Held.{Held}
 use Rattle.server.specs.Places.{argumentsAt, PartsIn, placesOf, Expandable}
-use Rattle.server.proofs.Parts.{length-part}
 use Rattle.server.proofs.SplitLaws.{split-whole}
 use Rattle.sessions.proofs.Validity.{capped-low}
 use Rattle.sessions.proofs.Kept.{queue-counts}
 use Rattle.sessions.proofs.Expanding.{expanded}
-use Rattle.exec.specs.Walks.{Queued, commandsIn}
+use Rattle.inside.specs.Walks.{Queued, commandsIn}
 use Rattle.exec.specs.Leaving.{LaidOut}
-use Rattle.exec.proofs.WalkLaws.{grown-arguments}
-
-length-places : (start : ℕ) (ns : List ℕ) → length (placesOf start ns) ≡ 2 * length ns
-unfolding placesOf
-length-places start [] = refl
-length-places start (n ∷ ns) = let e : length (placesOf (start + n) ns) ≡ 2 * length ns = length-places (start + n) ns in omega arith
+use Rattle.inside.proofs.WalkLaws.{grown-arguments}
 
 -- each place ends before the end of them all
 place-inside : (start : ℕ) (ns rest : List ℕ) (k : ℕ) → k < length ns
@@ -63,8 +60,8 @@ module _ {s : List ℕ} {sb : Bytes} (h : Held s sb) {q n : ℕ} (q-is : q ≡ g
     bytes-in = omega (arith, sum-small, h .bytes)
 
     pub laid-out : (p : List ℕ) {p′ : List ℕ} (d : Bytes) {d′ : Bytes} → allPositive (part 37 (getD s 4 0) s) ≡ true → 1024 ≤ length p → 11520 ≤ length d
-        → p′ ≡ written 0 (placesOf 2048 (part 101 n s)) p → d′ ≡ written 0 (take (2048 + u) sb) d → LaidOut s sb d p′ d′ (2048 + u)
-    unfolding written commandsIn
+        → p′ ≡ putAt 0 (placesOf 2048 (part 101 n s)) p → d′ ≡ putAt 0 (take (2048 + u) sb) d → LaidOut s sb d p′ d′ (2048 + u)
+    unfolding putAt commandsIn
     laid-out p {p′} d {d′} positive lp ld p-is d-is =
         let t : ℕ = total (part 37 (getD s 4 0) s) in
         let ls : List ℕ = part 101 n s in
@@ -73,7 +70,7 @@ module _ {s : List ℕ} {sb : Bytes} (h : Held s sb) {q n : ℕ} (q-is : q ≡ g
         let in-use : take (2048 + u) d′ ≡ take (2048 + u) sb = ap (take (2048 + u)) d-is ∙ take-at (take (2048 + u) sb) (drop (0 + length (take (2048 + u) sb)) d) (2048 + u) front in
         let rest : List ℕ = drop (0 + length (placesOf 2048 ls)) p in
         let parts : PartsIn p′ (take (2048 + u) sb) t = record {
-          table = omega (arith, ap length p-is, length-append (placesOf 2048 ls) rest, length-places 2048 ls, long, count-is);
+          table = omega (arith, ap length p-is, length-append (placesOf 2048 ls) rest, places-length 2048 ls, long, count-is);
           inside = λ k l. omega (
             arith,
             place-inside 2048 ls rest k (omega (arith, long, count-is)),
@@ -85,7 +82,7 @@ module _ {s : List ℕ} {sb : Bytes} (h : Held s sb) {q n : ℕ} (q-is : q ≡ g
         let all : argumentsAt 0 t p′ (take (2048 + u) sb) ≡ concat (queueIn s sb) =
         sym (grown-arguments p′ (take (2048 + u) sb) (drop (2048 + u) sb) t 0 t parts (omega arith))
         ∙ ap (argumentsAt 0 t p′) (take-append-drop (2048 + u) sb)
-        ∙ ap (λ (x : List ℕ). argumentsAt 0 t x sb) (p-is ∙ ap (λ (m : ℕ). written 0 (placesOf 2048 (part 101 m s)) p) count-is)
+        ∙ ap (λ (x : List ℕ). argumentsAt 0 t x sb) (p-is ∙ ap (λ (m : ℕ). putAt 0 (placesOf 2048 (part 101 m s)) p) count-is)
         ∙ expanded h p in
         let size : length d′ ≡ length d =
         ap length d-is ∙ length-append (take (2048 + u) sb) (drop (0 + length (take (2048 + u) sb)) d) ∙ omega (arith, length-drop (0 + length (take (2048 + u) sb)) d, front, sum-small) in

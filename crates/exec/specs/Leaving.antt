@@ -1,7 +1,7 @@
 -- What the functions around the queue of an EXEC leave: the working memory laid out, and the call answered.
 use Prim.Native.Nat.{ℕ, _+_, _≤_}
 use mathlib.Core.Path.{_≡_}
-use mathlib.Core.Bool.{true, false, cond}
+use mathlib.Core.Bool.{Bool, true, false, cond}
 use mathlib.Core.List.{List, map}
 use lib.ListN.{length, getD, take, replicate}
 use Rattle.key.specs.Bytes.{Bytes, part}
@@ -19,7 +19,7 @@ use Rattle.server.specs.Session.{Session, Done, clear, says, returns, readSeque
 use Rattle.server.specs.Sessions.{keysIn, queueIn, sessionFrom, allPositive, sessionWords, sessionBytes}
 use Rattle.server.specs.Held.{Held}
 use Rattle.server.specs.Finish.{Served, finish, Says, StoreLeft}
-use Rattle.exec.specs.Walks.{Queued, commandsIn}
+use Rattle.inside.specs.Walks.{Queued, commandsIn}
 
 -- THE WORKING MEMORY: the places of the queued arguments, and the session's bytes up to their end, r
 pub record LaidOut (s : List ℕ) (sb d : Bytes) (p′ : List ℕ) (d′ : Bytes) (r : ℕ) : Type 0 where
@@ -53,18 +53,19 @@ pub record Commits (ws : List Write) (put : Put) (used : ℕ) (w b s w′ b′ s
   pub leaves : (x : Reply) (out mid sb : Bytes) → Valid w b → out ≡ replicate (length out) 0 → Puts (encode x) out put mid → Held s sb
       → Leaves (finish (length out) used (says x (commit ws (storeIn w b)) clear) (storeIn w b) (sessionFrom s sb)) out w b s sb r mid w′ b′ s′
 
--- an EXEC without conflict: 6, 7, or its reply and its writes
-unfoldable pub concluded : Reply → Store → Session → List Write → Done
-concluded x st s ws = cond (hasRoom st ws) (cond (hasSequences st ws) (says x (commit ws st) clear) (returns 7 st s)) (returns 6 st s)
-
-pub record Concludes (ws : List Write) (put : Put) (used : ℕ) (w b s : List ℕ) (mid : Bytes) (w′ b′ s′ : List ℕ) (out′ : Bytes) (r : Answer) : Type 0 where
-  pub leaves : (x : Reply) (out sb : Bytes) → out ≡ replicate (length out) 0 → Puts (encode x) out put mid → Held s sb
-      → Leaves (finish (length out) used (concluded x (storeIn w b) (sessionFrom s sb) ws) (storeIn w b) (sessionFrom s sb)) out w b s sb r out′ w′ b′ s′
-
 -- `*-1` in a buffer that is cleared first, with the store as it was
 pub record NilCloses (used : ℕ) (mid : Bytes) (s s′ : List ℕ) (r : Answer) (out′ : Bytes) : Type 0 where
   pub leaves : (w b out sb : Bytes) → Valid w b → out ≡ replicate (length out) 0 → length mid ≡ length out → Held s sb
       → Leaves (finish (length out) used (says NilArray (storeIn w b) clear) (storeIn w b) (sessionFrom s sb)) out w b s sb r out′ w b s′
+
+-- an EXEC after its queue: `*-1` where a key has moved, 6, 7, or its reply and its writes
+unfoldable pub concluded : Bool → Reply → Store → Session → List Write → Done
+concluded conflict x st s ws =
+    cond conflict (says NilArray st clear) (cond (hasRoom st ws) (cond (hasSequences st ws) (says x (commit ws st) clear) (returns 7 st s)) (returns 6 st s))
+
+pub record Concludes (conflict : Bool) (ws : List Write) (put : Put) (used : ℕ) (w b s : List ℕ) (mid : Bytes) (w′ b′ s′ : List ℕ) (out′ : Bytes) (r : Answer) : Type 0 where
+  pub leaves : (x : Reply) (out sb : Bytes) → out ≡ replicate (length out) 0 → Puts (encode x) out put mid → Held s sb
+      → Leaves (finish (length out) used (concluded conflict x (storeIn w b) (sessionFrom s sb) ws) (storeIn w b) (sessionFrom s sb)) out w b s sb r out′ w′ b′ s′
 
 -- before the commands of the queue: no mark, no watched key has moved, and the reply buffer is cleared
 pub record ExecReady (s : List ℕ) (sb : Bytes) (w b : List ℕ) (seq : ℕ) (out : Bytes) : Type 0 where

@@ -1,4 +1,2 @@
 -- The definitions of this crate.
 pub mod Leaving
-pub mod Progress
-pub mod Walks

@@ -1,8 +1,6 @@
 // The end of an EXEC: the answer, the commit, and the session cleared.
-use batch::ascending;
-use batch::settle;
+use encode::reply;
 use server::Answer;
-use sessions::changes;
 use writing::Put;
 ghost use mathlib.Core.Path.{_≡_};
 ghost use lib.ListN.{length};
@@ -11,7 +9,7 @@ ghost use Rattle.memtable.specs.Layout.{storeIn, leaveWords, leaveBytes};
 ghost use Rattle.memtable.specs.Rows.{Valid};
 ghost use Rattle.batch.specs.Settling.{RoomFor, sizesFrom};
 ghost use Rattle.own.specs.Own.{ownWrites, Own};
-ghost use Rattle.exec.specs.Leaving.{Closes, Commits, Concludes};
+ghost use Rattle.exec.specs.Leaving.{Closes, NilCloses, Commits, Concludes};
 
 // The answer to an EXEC that writes nothing, whose reply was put: 3 where it does not fit.
 pub fn close(session_words: &mut [u64], put: Put, used: usize) -> Answer
@@ -27,6 +25,16 @@ pub fn close(session_words: &mut [u64], put: Put, used: usize) -> Answer
         used: used,
         reply: n,
     }
+}
+
+// Answers `*-1` in place of what was put, and clears the session.
+pub fn close_nil(session_words: &mut [u64], out: &mut [u8], used: usize) -> Answer
+    requires { ⌜ length (now «session_words») ≡ 613 ⌝ }
+    ensures { λ r. ⌜ NilCloses used (now (out .entry)) (now («session_words» .entry)) (now («session_words» .exit)) r (now (out .exit)) ⌝ }
+{
+    writing::clear(out);
+    let put = reply::put_nil_array(out);
+    close(session_words, put, used)
 }
 
 // Commits the own writes.
@@ -69,9 +77,10 @@ fn commit_reply(
     }
 }
 
-// The answer to an EXEC without conflict: 6 and 7 come before 3.
+// The answer to an EXEC whose queue has run: conflict comes before 6 and 7, and these before 3.
 pub fn conclude(
     session_words: &mut [u64],
+    conflict: bool,
     own: &[u64],
     rows: usize,
     data: &[u8],
@@ -84,14 +93,16 @@ pub fn conclude(
     requires { ⌜ length (now «session_words») ≡ 613 ⌝ }
     requires { ⌜ Own (now own) (now «data») rows ⌝ }
     requires { ⌜ Valid (now words) (now bytes) ⌝ }
-    ensures { λ r. ⌜ Concludes (ownWrites (now (own .entry)) (now («data» .entry)) rows) put used (now (words .entry)) (now (bytes .entry)) (now («session_words» .entry)) (now (out .entry)) (now (words .exit)) (now (bytes .exit)) (now («session_words» .exit)) (now (out .exit)) r ⌝ }
+    ensures { λ r. ⌜ Concludes conflict (ownWrites (now (own .entry)) (now («data» .entry)) rows) put used (now (words .entry)) (now (bytes .entry)) (now («session_words» .entry)) (now (out .entry)) (now (words .exit)) (now (bytes .exit)) (now («session_words» .exit)) (now (out .exit)) r ⌝ }
 {
-    if settle::has_room(own, 0, rows, words) {
-        let last = words[2];
-        if settle::has_sequences(last, rows) {
-            return commit_reply(session_words, own, rows, data, words, bytes, put, used);
-        }
+    if conflict {
+        return close_nil(session_words, out, used);
+    }
+    if !settle::has_room(own, 0, rows, words) {
+        return answer::refuse(out, 6);
+    }
+    if !settle::has_sequences(words[2], rows) {
         return answer::refuse(out, 7);
     }
-    answer::refuse(out, 6)
+    commit_reply(session_words, own, rows, data, words, bytes, put, used)
 }

@@ -1,5 +1,5 @@
 // The working memory of an EXEC: the places of the queued arguments, and a copy of the bytes that they lie in.
-use sessions::queue;
+use store::merge;
 ghost use mathlib.Core.Path.{_≡_};
 ghost use mathlib.Core.Bool.{true};
 ghost use Prim.Native.Nat.{_≤_};
@@ -27,6 +27,6 @@ pub fn lay_out(
     let sum = sessions::sum_within(session_words, 101, count, 8192);
     let used = 2048 + sum;
     queue::expand(session_words, places, count);
-    queue::put(data, 0, &session_bytes[..used]);
+    merge::put(data, 0, &session_bytes[..used]);
     used
 }

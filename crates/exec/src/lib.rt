@@ -1,22 +1,5 @@
 // EXEC: the queued commands run, the verdict, and the commit.
-pub mod answers;
 pub mod closing;
-pub mod counters;
-pub mod keys;
 pub mod layout;
-pub mod pairs;
-pub mod queued;
-pub mod tombstones;
 pub mod transaction;
 pub mod watched;
-
-use writing::Put;
-
-// How far an EXEC has come: the rows of its own writes, the bytes of the data in use, whether a key that it wrote or checked has
-// moved, and the reply so far.
-pub struct Walked {
-    pub rows: usize,
-    pub used: usize,
-    pub conflict: bool,
-    pub put: Put,
-}

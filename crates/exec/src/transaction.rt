@@ -1,13 +1,10 @@
 // EXEC of one session.
 use crate::closing;
 use crate::layout;
-use crate::queued;
 use crate::watched;
-use encode::reply;
+use inside::queued;
 use server::Answer;
-use server::errors;
 use server::errors::Fixed;
-use sessions::changes;
 ghost use mathlib.Core.Path.{_≡_};
 ghost use mathlib.Core.Bool.{true};
 ghost use Prim.Native.Nat.{_≤_};
@@ -16,7 +13,7 @@ ghost use Rattle.memtable.specs.Layout.{lastWord};
 ghost use Rattle.memtable.specs.Rows.{Valid};
 ghost use Rattle.server.specs.Lent.{OneSession};
 ghost use Rattle.server.specs.Sessions.{sessionOk};
-ghost use Rattle.exec.specs.Leaving.{ReadsAt, Leaves, execServed, NilCloses, ExecReady};
+ghost use Rattle.exec.specs.Leaving.{ReadsAt, Leaves, execServed, ExecReady};
 
 // The sequence at which EXEC reads: the snapshot, or the last sequence if nothing is watched.
 fn read_sequence(session_words: &[u64], words: &[u64]) -> u64
@@ -30,17 +27,7 @@ fn read_sequence(session_words: &[u64], words: &[u64]) -> u64
     changes::snapshot(session_words)
 }
 
-// Answers `*-1` in place of what was put, and clears the session.
-fn close_nil(session_words: &mut [u64], out: &mut [u8], used: usize) -> Answer
-    requires { ⌜ length (now «session_words») ≡ 613 ⌝ }
-    ensures { λ r. ⌜ NilCloses used (now (out .entry)) (now («session_words» .entry)) (now («session_words» .exit)) r (now (out .exit)) ⌝ }
-{
-    writing::clear(out);
-    let put = reply::put_nil_array(out);
-    closing::close(session_words, put, used)
-}
-
-// Runs the queue in lent working memory, and answers by its verdict. Conflict comes before 6 and 7.
+// Runs the queue in lent working memory, and answers by its verdict.
 fn exec_in(
     session_words: &mut [u64],
     session_bytes: &[u8],
@@ -71,14 +58,11 @@ fn exec_in(
         seq,
         out,
     );
-    let conflict = at.conflict;
-    if conflict {
-        return close_nil(session_words, out, used);
-    }
     let end = at.used;
     let put = at.put;
     closing::conclude(
         session_words,
+        at.conflict,
         own,
         at.rows,
         &data[..end],
@@ -141,7 +125,7 @@ pub fn exec(
     }
     let seq = read_sequence(session_words, words);
     if watched::watched_moved(session_words, session_bytes, words, bytes, seq) {
-        return close_nil(session_words, out, used);
+        return closing::close_nil(session_words, out, used);
     }
     exec_queue(session_words, session_bytes, words, bytes, seq, out, used)
 }

@@ -12,12 +12,12 @@ use borrow.Rule.Slice.PartMut.{midOf, mid-len}
 use Rattle.key.specs.Bytes.{Bytes}
 use Rattle.calls.specs.Calls.{Lent}
 use Rattle.console.specs.declared.serve.Progress.{Progress}
-use Rattle.console.specs.declared.pieces.Mark.the-variants.{NoMark}
-use Rattle.console.specs.Pieces.{MarkFits}
+use Rattle.lines.specs.declared.pieces.Mark.the-variants.{NoMark}
+use Rattle.lines.specs.Pieces.{MarkFits}
 use Rattle.console.specs.Steps.{Reached, SomeServed}
 use Rattle.console.specs.declared.frame.Begun.{Begun}
 use Rattle.console.specs.declared.frame.Begun.the-variants.{Answered, Serve}
-use Rattle.console.specs.Held.{countAt}
+use Rattle.lines.specs.Held.{countAt}
 use Rattle.console.specs.Lines.{filledOf, begunAs, Begins}
 use Rattle.console.proofs.BeginLaws.{given-bounds}
 use Rattle.calls.specs.Frames as F

@@ -1,7 +1,7 @@
 -- What the program keeps within its buffers.
 use Prim.Native.Nat.{ℕ, _≤_}
 use Rattle.console.specs.declared.serve.Progress.{Progress}
-use Rattle.console.specs.Pieces.{MarkFits}
+use Rattle.lines.specs.Pieces.{MarkFits}
 use Rattle.frames.specs.declared.Cursor.{Cursor}
 
 -- the requests of a frame of `size` bytes, served

@@ -1,11 +1,11 @@
 // The program `frames`: one line in, one line out.
 use console::frame;
 use console::frame::Begun;
-use console::pieces::Mark;
 use console::serve;
 use console::serve::Progress;
 use libc::STDIN_FILENO;
 use libc::STDOUT_FILENO;
+use lines::pieces::Mark;
 use registry::open;
 ghost use Prim.Native.Nat.{_+_, _<_, _≤_};
 ghost use mathlib.Core.Path.{_≡_};

@@ -73,7 +73,7 @@ pub fn put_matches(
             Found::At(j) => {
                 let name = read::key_of(words, bytes, j);
                 if glob::glob(pattern, name) {
-                    put = reply::then_bulk(out, put, name);
+                    put = items::then_bulk(out, put, name);
                     i = j + 1;
                     left -= 1;
                 } else {

@@ -58,8 +58,8 @@ fn count_below(words: &[u64], bytes: &[u8], end: &[u8], from: usize, limit: u64)
 fn then_pair(out: &mut [u8], put: Put, name: &[u8], value: &[u8]) -> Put
     ensures { λ r. ⌜ Adds (encode (BulkString (now (name .entry))) ++ encode (BulkString (now (value .entry)))) put (now (out .entry)) r (now (out .exit)) ⌝ }
 {
-    let line = reply::then_bulk(out, put, name);
-    reply::then_bulk(out, line, value)
+    let line = items::then_bulk(out, put, name);
+    items::then_bulk(out, line, value)
 }
 
 // Writes the array of `count` entries from `from` on, keys and values in turn.

@@ -82,6 +82,6 @@ pub fn put_scan(
     let seen = keys::count_matches(words, bytes, pattern, at, most);
     let follows = cursor(words, bytes, seen.next, from, most);
     let head = reply::put_head(out, b'*', 2);
-    let line = reply::then_bulk_digits(out, head, follows);
+    let line = items::then_bulk_digits(out, head, follows);
     then_matches(out, line, words, bytes, pattern, at, seen.matched)
 }

@@ -4,6 +4,8 @@ use native.Mathlib.Omega.{arith}
 use mathlib.Core.Path.{_≡_, refl, sym, ap, _∙_, subst}
 use mathlib.Core.List.{List, []}
 use lib.IntN.{pos}
+use Rattle.command.proofs.KindLaws.{least-one}
+use Rattle.server.proofs.PlaceLaws.{arguments-of, name-of}
 use Rattle.key.specs.Bytes.{Bytes}
 use Rattle.resp.specs.Reply.{Reply, Integer, BulkString, Nil, bulkOr}
 use Rattle.server.specs.declared.Answer.{Answer}
@@ -15,42 +17,8 @@ use Rattle.server.specs.Places.{argumentsAt}
 use Rattle.command.specs.declared.Read.{Read}
 use Rattle.command.specs.declared.Read.the-variants.{Value, Live, Values, Echo, Says, Arity, Unknown, Nothing}
 use Rattle.command.specs.Kinds.{liveReply, readReply, leastRead}
-use Rattle.direct.specs.Reading.{lastReader, valuesReply}
-use Rattle.direct.specs.Served.{Runs}
-
--- THE ARGUMENTS: those behind the name, and the name
-pub arguments-of : (p : List ℕ) (d : Bytes) (count : ℕ) → 1 ≤ count → arguments (argumentsAt 0 count p d) ≡ argumentsAt 1 (count - 1) p d
-unfolding argumentsAt
-arguments-of p d zero h = absurd (omega arith)
-arguments-of p d (suc n) h = let e : n ≡ suc n - 1 = omega arith in ap (λ (m : ℕ). argumentsAt 1 m p d) e
-
-name-of : (p : List ℕ) (d : Bytes) (count : ℕ) → 1 ≤ count → nameWord (argumentsAt 0 count p d) ≡ argument 0 (argumentsAt 0 count p d)
-unfolding argumentsAt
-name-of p d zero h = absurd (omega arith)
-name-of p d (suc n) h = refl
-
--- how many arguments a reply needs
-pub least-one : (q : Read) {count : ℕ} → leastRead q ≤ count → 1 ≤ count
-unfolding leastRead
-least-one Value h = omega arith
-least-one Live h = h
-least-one Values h = h
-least-one Echo h = omega arith
-least-one (Says f) h = h
-least-one Arity h = h
-least-one Unknown h = h
-least-one Nothing h = h
-
-pub least-value : (q : Read) {count : ℕ} → leastRead q ≤ count → q ≡ Value → 1 < count
-unfolding leastRead
-least-value q h e = let m : leastRead q ≡ 2 = ap leastRead e in omega arith
-
-pub least-echo : (q : Read) {count : ℕ} → leastRead q ≤ count → q ≡ Echo → 1 < count
-unfolding leastRead
-least-echo q h e = let m : leastRead q ≡ 2 = ap leastRead e in omega arith
-
-pub least-name : (q : Read) {count : ℕ} → leastRead q ≤ count → 0 < count
-least-name q h = omega (arith, least-one q h)
+use Rattle.verdict.specs.Reading.{lastReader, valuesReply}
+use Rattle.verdict.specs.Served.{Runs}
 
 -- EACH REPLY
 module _ (w : List ℕ) (b : Bytes) (p : List ℕ) (d : Bytes) (count used : ℕ) (q : Read) {out out′ : Bytes} {r : Answer} where

@@ -18,8 +18,8 @@ use Rattle.command.specs.declared.Kind.{Kind}
 use Rattle.command.specs.Meant.{commandMeant, listingMeant, executedMeant, CommandCounted, ListingCounted, Counted, ExecutedIs}
 use Rattle.command.specs.Kinds.{kindMeant, kindEffect, KindCounted}
 use Rattle.command.proofs.KindLaws.{command-effect, command-counted}
-use Rattle.direct.specs.Reading.{lastReader}
-use Rattle.direct.specs.Served.{effectServed, Runs, Answers}
+use Rattle.verdict.specs.Reading.{lastReader}
+use Rattle.verdict.specs.Served.{effectServed, Runs, Answers}
 use Rattle.server.specs.Places.{argumentsAt}
 use Rattle.server.proofs.PlaceLaws.{arguments-count}
 

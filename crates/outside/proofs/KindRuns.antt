@@ -4,6 +4,7 @@ use native.Mathlib.Omega.{arith}
 use mathlib.Core.Path.{_≡_, refl, sym, ap, _∙_, subst}
 use mathlib.Core.List.{List, [], map}
 use lib.IntN.{ℤ, pos}
+use Rattle.server.proofs.PlaceLaws.{arguments-of}
 use Rattle.key.specs.Bytes.{Bytes}
 use Rattle.resp.specs.Reply.{Integer, ok}
 use Rattle.server.specs.declared.Answer.{Answer}
@@ -15,10 +16,9 @@ use Rattle.command.specs.declared.Read.{Read}
 use Rattle.command.specs.declared.Kind.{Kind}
 use Rattle.command.specs.declared.Kind.the-variants.{Pairs, Tombstones, Counter, Reads}
 use Rattle.command.specs.Kinds.{liveReply, readReply, leastRead, pairsEffect, tombstonesEffect, counterEffect, kindEffect, KindCounted}
-use Rattle.direct.specs.Reading.{lastReader}
-use Rattle.direct.specs.Writes.{pairsAt, tombstonesAt}
-use Rattle.direct.specs.Served.{Runs, deletion}
-use Rattle.outside.proofs.Answering.{arguments-of}
+use Rattle.verdict.specs.Reading.{lastReader}
+use Rattle.verdict.specs.Writes.{pairsAt, tombstonesAt}
+use Rattle.verdict.specs.Served.{Runs, deletion}
 
 -- THE ARGUMENT COUNT of each kind
 module _ {k : Kind} {count : ℕ} (h : KindCounted k count) where

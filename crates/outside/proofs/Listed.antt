@@ -26,7 +26,7 @@ use Rattle.listing.proofs.Ranging.{range-unlimited}
 use Rattle.command.specs.declared.Listing.{Listing as CodeListing}
 use Rattle.command.specs.declared.Listing.the-variants as listing
 use Rattle.command.specs.Meant.{listingMeant, patternAt, ListingCounted}
-use Rattle.direct.specs.Served.{Answers}
+use Rattle.verdict.specs.Served.{Answers}
 
 -- THE ARGUMENT COUNT of each
 module _ {l : CodeListing} {count : ℕ} (h : ListingCounted l count) where

@@ -13,7 +13,7 @@ ghost use Rattle.memtable.specs.Layout.{lastWord};
 ghost use Rattle.memtable.specs.Rows.{Valid};
 ghost use Rattle.server.specs.Command.{executedOf};
 ghost use Rattle.server.specs.Places.{argumentsAt, PartsIn};
-ghost use Rattle.direct.specs.Served.{Answers};
+ghost use Rattle.verdict.specs.Served.{Answers};
 
 // Runs the command of these arguments.
 pub fn run(

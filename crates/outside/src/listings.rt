@@ -18,7 +18,7 @@ ghost use mathlib.Core.Option.{some};
 ghost use Rattle.server.specs.Command.{lists, SCAN, RANGE, argument, answerListing};
 ghost use Rattle.server.specs.Places.{argumentsAt, PartsIn};
 ghost use Rattle.command.specs.Meant.{listingMeant, patternAt, ListingCounted};
-ghost use Rattle.direct.specs.Served.{Answers};
+ghost use Rattle.verdict.specs.Served.{Answers};
 
 // SCAN: the pattern is the argument of this place, and `*` for place 0.
 fn put_scan(

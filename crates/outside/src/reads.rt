@@ -11,8 +11,8 @@ ghost use Rattle.memtable.specs.Layout.{lastWord};
 ghost use Rattle.memtable.specs.Rows.{Valid};
 ghost use Rattle.server.specs.Places.{argumentsAt, PartsIn};
 ghost use Rattle.command.specs.Kinds.{readReply, leastRead};
-ghost use Rattle.direct.specs.Reading.{lastReader};
-ghost use Rattle.direct.specs.Served.{Runs};
+ghost use Rattle.verdict.specs.Reading.{lastReader};
+ghost use Rattle.verdict.specs.Served.{Runs};
 
 // Answers a command that only reads.
 pub fn answer_read(

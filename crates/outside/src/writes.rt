@@ -12,8 +12,8 @@ ghost use Rattle.memtable.specs.Rows.{Valid};
 ghost use Rattle.server.specs.Command.{held, raised};
 ghost use Rattle.server.specs.Places.{argumentsAt, PartsIn};
 ghost use Rattle.command.specs.Kinds.{kindEffect, KindCounted};
-ghost use Rattle.direct.specs.Reading.{lastReader};
-ghost use Rattle.direct.specs.Served.{Runs};
+ghost use Rattle.verdict.specs.Reading.{lastReader};
+ghost use Rattle.verdict.specs.Served.{Runs};
 
 // INCR, DECR and INCRBY, with working memory for the text of the sum.
 fn run_counter(

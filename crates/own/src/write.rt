@@ -1,6 +1,5 @@
 // Setting the write of a key: its row is replaced, or the rows behind its place move up once.
 use crate::read;
-use memtable::commit;
 ghost use mathlib.Core.Path.{_≡_};
 ghost use mathlib.Core.List.{[], _∷_};
 ghost use Prim.Native.Nat.{_+_, _-_, _*_, _≤_};
@@ -38,10 +37,10 @@ fn set_row(
     ensures { λ _. ⌜ now (own .exit) ≡ putAt (4 * i) («key_start» ∷ «key_len» ∷ «value_start» ∷ word ∷ []) (now (own .entry)) ⌝ }
 {
     let row = 4 * i;
-    own[row] = commit::wide(key_start);
-    own[row + 1] = commit::wide(key_len);
-    own[row + 2] = commit::wide(value_start);
-    own[row + 3] = commit::wide(word);
+    own[row] = memtable::read::wide(key_start);
+    own[row + 1] = memtable::read::wide(key_len);
+    own[row + 2] = memtable::read::wide(value_start);
+    own[row + 3] = memtable::read::wide(word);
 }
 
 // Sets the write of a key, and answers how many rows there are then. `word` is 0 for a tombstone, else the value's length + 1.

@@ -31,9 +31,9 @@ pub fn then_value(
 {
     let seen = see::see(own, n, data, words, bytes, seq, name);
     match seen {
-        Seen::Written(j) => reply::then_bulk(out, put, see::written_value(own, data, j)),
-        Seen::Stored(i) => reply::then_bulk(out, put, read::value_of(words, bytes, i)),
-        Seen::Absent => reply::then_nil(out, put),
+        Seen::Written(j) => items::then_bulk(out, put, see::written_value(own, data, j)),
+        Seen::Stored(i) => items::then_bulk(out, put, read::value_of(words, bytes, i)),
+        Seen::Absent => items::then_nil(out, put),
     }
 }
 

@@ -15,33 +15,7 @@ use Rattle.batch.specs.declared.Member.{Member}
 use Rattle.batch.specs.Members.{membersInside, groupFits}
 use Rattle.batch.specs.Walked.{GroupReady, GroupLeft, groupOf}
 use Rattle.calls.specs.Calls.{StoreCalled, refusesStore, givesStore, judged, group-call, verdictBuffer, GroupPromise}
-use Rattle.registry.specs.Numbers.{groupNumber}
-
--- THE NUMBER, test by test
-module _ (inside : Bool) (n v : ℕ) (w b : List ℕ) {t : Bool} (is : t ≡ validStore w b) where
-  number-is : {f : Bool} → t ≡ true → leb n 64 and leb n v and inside ≡ f → cond f 0 8 ≡ groupNumber inside n v w b
-  unfolding groupNumber
-  number-is e p = sym (λ z. cond ((sym is ∙ e) z) (cond (p z) 0 8) 9)
-
-  pub number-nine : t ≡ false → 9 ≡ groupNumber inside n v w b
-  unfolding groupNumber
-  number-nine e = sym (ap (λ (x : Bool). cond x (cond (leb n 64 and leb n v and inside) 0 8) 9) (sym is ∙ e))
-
-  pub number-many : t ≡ true → 64 < n → 8 ≡ groupNumber inside n v w b
-  unfolding _and_
-  number-many e h = number-is e (ap (λ (x : Bool). x and (leb n v and inside)) (lt-leb n 64 h))
-
-  pub number-few : t ≡ true → n ≤ 64 → v < n → 8 ≡ groupNumber inside n v w b
-  unfolding _and_
-  number-few e h k = number-is e (λ z. le-leb n 64 h z and (lt-leb n v k z and inside))
-
-  pub number-inside : t ≡ true → n ≤ 64 → n ≤ v → inside ≡ true → 0 ≡ groupNumber inside n v w b
-  unfolding _and_
-  number-inside e h k y = number-is e (λ z. le-leb n 64 h z and (le-leb n v k z and y z))
-
-  pub number-outside : t ≡ true → n ≤ 64 → n ≤ v → inside ≡ false → 8 ≡ groupNumber inside n v w b
-  unfolding _and_
-  number-outside e h k y = number-is e (λ z. le-leb n 64 h z and (le-leb n v k z and y z))
+use Rattle.numbers.specs.Numbers.{groupNumber}
 
 -- THE CALL
 module _ (ms : List Member) (parts : List ℕ) (d v : Bytes) (w : List ℕ) (b : Bytes) {inside : Bool} {n : ℕ}

@@ -41,43 +41,11 @@ use Rattle.session.specs.Responds.{responded, Left, Ready}
 use Rattle.session.proofs.Among.{lentAt, backAt, lent-words, lent-bytes, lent-session, words-back, bytes-back}
 use Rattle.calls.specs.Serve.{protocolError, serveReading, serve}
 use Rattle.calls.specs.Calls.{Lent, lentOf, valid, leaveStore, leaveSession, leaveServed, Called, refuses, answerOf, request-call, RequestPromise, TablePromise}
-use Rattle.registry.specs.Serving.{requestNumber, FaultLeft, wholeServed, servedIn, TableHolds, ReadyAmong, servedAmong, LeftAmong}
+use Rattle.numbers.specs.Numbers.{requestNumber}
+use Rattle.registry.specs.Serving.{FaultLeft, wholeServed, servedIn, TableHolds, ReadyAmong, servedAmong, LeftAmong}
 use Rattle.calls.proofs.ServeLaws.{ServeKept, serve-kept}
 use Rattle.calls.proofs.LentLaws.{valid-parts, session-good, eqb-differs}
 use Rattle.calls.proofs.CallLaws.{no-session, not-valid, served}
-
--- THE NUMBER, test by test
-module _ (i : ℕ) (w : List ℕ) (b : Bytes) (sw : List ℕ) (sb : Bytes) where
-  pub number-one : 15 < i → 1 ≡ requestNumber i (lentOf w b sw sb)
-  unfolding requestNumber
-  number-one h =
-      let e : ltb i 16 ≡ false = above (ltb i 16) refl in
-      sym (ap (λ (x : Bool). cond x (cond (valid (lentOf w b sw sb)) 0 9) 1) e)
-    where
-      above : (t : Bool) → ltb i 16 ≡ t → ltb i 16 ≡ false
-      above true e = absurd (omega (arith, ltb-true i 16 e))
-      above false e = e
-
-  module _ (h : i ≤ 15) {t : Bool} (is : t ≡ validStore w b) where
-    number-by : {v : Bool} → valid (lentOf w b sw sb) ≡ v → cond v 0 9 ≡ requestNumber i (lentOf w b sw sb)
-    unfolding requestNumber
-    number-by p = sym (λ z. cond (lt-ltb i 16 (omega arith) z) (cond (p z) 0 9) 1)
-
-    pub store-nine : t ≡ false → 9 ≡ requestNumber i (lentOf w b sw sb)
-    unfolding valid _and_
-    store-nine e = number-by (ap (λ (x : Bool). x and validSessions (storeIn w b .last) sw sb) (sym is ∙ e))
-
-    module _ {u : Bool} (us : u ≡ validSessions (lastWord w) sw sb) (e : t ≡ true) where
-      pub sessions-nine : u ≡ false → 9 ≡ requestNumber i (lentOf w b sw sb)
-      unfolding valid _and_ storeIn
-      sessions-nine f = number-by (λ z. (sym is ∙ e) z and (sym us ∙ f) z)
-
-      pub number-zero : u ≡ true → 0 ≡ requestNumber i (lentOf w b sw sb)
-      unfolding valid _and_ storeIn
-      number-zero f = number-by (λ z. (sym is ∙ e) z and (sym us ∙ f) z)
-
-pub valid-words : (w : List ℕ) (b : Bytes) {t : Bool} → t ≡ validStore w b → t ≡ true → 2 < length w
-valid-words w b is e = omega (arith, validated w b is e .words-hold)
 
 -- A PROTOCOL ERROR
 pub fault-answered : (input : Bytes) (f : Fault) (s : List ℕ) (out : Bytes) {put : Put} {mid : Bytes} {s′ : List ℕ} {r : Answer}
@@ -245,13 +213,7 @@ module _ (i : ℕ) (w : List ℕ) (b : Bytes) (sw : List ℕ) (sb out : Bytes) (
   all : Sixteen (lastWord w) sw sb
   all = sixteen (lastWord w) sw sb (h .sessions)
 
-  pub words-inside : i * 613 + 613 ≤ length sw
-  words-inside = omega (arith, all .words, h .below)
-
-  pub bytes-inside : i * 10240 + 10240 ≤ length sb
-  bytes-inside = omega (arith, all .bytes, h .below)
-
-  pub ready-lent : Ready w b (lentAt 613 i sw) (lentAt 10240 i sb) out
+  ready-lent : Ready w b (lentAt 613 i sw) (lentAt 10240 i sb) out
   ready-lent = record {
     valid = h .valid-store;
     one = record {
@@ -262,7 +224,7 @@ module _ (i : ℕ) (w : List ℕ) (b : Bytes) (sw : List ℕ) (sb out : Bytes) (
     cleared = h .cleared;
   }
 
-  pub left-among : (input : Bytes) (places : ℕ) {r : Answer} {out′ : Bytes} {w′ : List ℕ} {b′ : Bytes} {s₁ : List ℕ} {sb₁ : Bytes}
+  left-among : (input : Bytes) (places : ℕ) {r : Answer} {out′ : Bytes} {w′ : List ℕ} {b′ : Bytes} {s₁ : List ℕ} {sb₁ : Bytes}
       → Left (servedIn places (length out) input w b (lentAt 613 i sw) (lentAt 10240 i sb)) out w b (lentAt 613 i sw) (lentAt 10240 i sb) r out′ w′ b′ s₁ sb₁
       → LeftAmong i (servedAmong i places (length out) input w b sw sb) out w b sw sb r out′ w′ b′ (backAt 613 i sw s₁) (backAt 10240 i sb sb₁)
   left-among input places l =
@@ -356,11 +318,23 @@ module _ (i : ℕ) (w : List ℕ) (b : Bytes) (sw : List ℕ) (sb : Bytes) {n : 
       go true false p q = let z : _≡_ {A = ℕ} 9 0 = sym (number-as p q) ∙ e in absurd (omega arith)
       go false v p q = let z : _≡_ {A = ℕ} 1 0 = sym (number-as p q) ∙ e in absurd (omega arith)
 
+  pub request-below : n ≡ 0 → i < 16
+  request-below e = ltb-true i 16 (passed e .0)
+
+  all-sessions : n ≡ 0 → Sixteen (lastWord w) sw sb
+  all-sessions e = sixteen (lastWord w) sw sb (sessions-ok i w b sw sb (request-below e) (passed e .1))
+
+  pub request-words : n ≡ 0 → i * 613 + 613 ≤ length sw
+  request-words e = omega (arith, all-sessions e .words, request-below e)
+
+  pub request-bytes : n ≡ 0 → i * 10240 + 10240 ≤ length sb
+  request-bytes e = omega (arith, all-sessions e .bytes, request-below e)
+
   module _ (out : Bytes) {out₁ : Bytes} (cleared : out₁ ≡ replicate (length out) 0) where
     long : length out₁ ≡ length out
     long = ap length cleared ∙ length-replicate (length out) 0
 
-    pub request-ready : n ≡ 0 → ReadyAmong i w b sw sb out₁
+    request-ready : n ≡ 0 → ReadyAmong i w b sw sb out₁
     request-ready e =
         let p = passed e in
         let h : i < 16 = ltb-true i 16 (p .0) in
@@ -371,7 +345,7 @@ module _ (i : ℕ) (w : List ℕ) (b : Bytes) (sw : List ℕ) (sb : Bytes) {n : 
           cleared = cleared ∙ ap (λ (m : ℕ). replicate m 0) (sym long);
         }
 
-    pub request-done : (input : Bytes) (places : ℕ) {r : Answer} {out′ : Bytes} {w′ : List ℕ} {b′ : Bytes} {sw′ : List ℕ} {sb′ : Bytes} → n ≡ 0
+    request-done : (input : Bytes) (places : ℕ) {r : Answer} {out′ : Bytes} {w′ : List ℕ} {b′ : Bytes} {sw′ : List ℕ} {sb′ : Bytes} → n ≡ 0
         → LeftAmong i (servedAmong i places (length out₁) input w b sw sb) out₁ w b sw sb r out′ w′ b′ sw′ sb′
         → RequestPromise i input places out (lentOf w b sw sb) r out′ (lentOf w′ b′ sw′ sb′)
     unfolding servedAmong leaveStore leaveSession
@@ -389,6 +363,15 @@ module _ (i : ℕ) (w : List ℕ) (b : Bytes) (sw : List ℕ) (sb : Bytes) {n : 
           reply = m .says .reply ∙ ap (λ (k : ℕ). replyBuffer k (d .reply)) long ∙ ap (λ (x : Called). replyBuffer (length out) (x .outcome .reply)) c;
           lent = all ∙ full-left i w b sw sb h (p .1) d (served-kept i w b sw sb h (p .1) input places (length out)) ∙ ap (λ (x : Called). x .lent) c;
         }
+
+    -- session i is lent where no number is returned
+    pub request-lent : n ≡ 0 → Ready w b (lentAt 613 i sw) (lentAt 10240 i sb) out₁
+    request-lent e = ready-lent i w b sw sb out₁ (request-ready e)
+
+    pub request-served : (input : Bytes) (places : ℕ) {r : Answer} {out′ : Bytes} {w′ : List ℕ} {b′ : Bytes} {s₁ : List ℕ} {sb₁ : Bytes} → n ≡ 0
+        → Left (servedIn places (length out₁) input w b (lentAt 613 i sw) (lentAt 10240 i sb)) out₁ w b (lentAt 613 i sw) (lentAt 10240 i sb) r out′ w′ b′ s₁ sb₁
+        → RequestPromise i input places out (lentOf w b sw sb) r out′ (lentOf w′ b′ (backAt 613 i sw s₁) (backAt 10240 i sb sb₁))
+    request-served input places e l = request-done input places e (left-among i w b sw sb out₁ (request-ready e) input places l)
 
     -- 1 and 9 leave all
     pub request-refused : (input : Bytes) (places : ℕ) {r : Answer} → (n ≡ 0 → ⊥) → r ≡ refusal n → RequestPromise i input places out (lentOf w b sw sb) r out₁ (lentOf w b sw sb)

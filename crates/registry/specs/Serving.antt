@@ -22,10 +22,6 @@ use Rattle.session.specs.Responds.{responded}
 use Rattle.calls.specs.Serve.{protocolError, serve}
 use Rattle.calls.specs.Calls.{Lent, valid}
 
--- the number of a request call that leaves all: 1, then 9
-unfoldable pub requestNumber : ℕ → Lent → ℕ
-requestNumber i l = cond (ltb i 16) (cond (valid l) 0 9) 1
-
 -- a protocol error answered, with any valid store and session
 pub record FaultLeft (input : Bytes) (f : Fault) (s : List ℕ) (out : Bytes) (r : Answer) (s′ : List ℕ) (out′ : Bytes) : Type 0 where
   pub leaves : (w b sb : Bytes) → Valid w b → out ≡ replicate (length out) 0 → Held s sb

@@ -1,32 +1,10 @@
 // A group of members, judged and committed in one call.
 use batch::Member;
-use batch::group;
-use memtable::valid;
 ghost use mathlib.Core.Path.{_≡_};
 ghost use Prim.Native.Nat.{_<_};
 ghost use lib.ListN.{length};
 ghost use Rattle.memtable.specs.Layout.{lastWord};
 ghost use Rattle.calls.specs.Calls.{GroupPromise};
-ghost use Rattle.registry.specs.Numbers.{groupNumber};
-
-// The number that a group call returns: 9, then 8, or 0. `inside` says that no part lies outside its buffer.
-fn number(inside: bool, members: usize, verdicts: usize, words: &[u64], bytes: &[u8]) -> u64
-    ensures { λ r. ⌜ r ≡ groupNumber inside members verdicts (now (words .entry)) (now (bytes .entry)) ⌝ }
-{
-    if valid::validate(words, bytes) {
-        if 64 < members {
-            return 8;
-        }
-        if verdicts < members {
-            return 8;
-        }
-        if inside {
-            return 0;
-        }
-        return 8;
-    }
-    9
-}
 
 // The last sequence of a store.
 fn last(words: &[u64]) -> u64
@@ -47,11 +25,11 @@ pub fn group(
 ) -> u64
     ensures { λ r. ⌜ GroupPromise (now (members .entry)) (now (parts .entry)) (now («data» .entry)) (now (verdicts .entry)) (now (words .entry)) (now (bytes .entry)) r (now (verdicts .exit)) (now (words .exit)) (now (bytes .exit)) ⌝ }
 {
-    let inside = group::members_inside(members, parts, data);
-    let number = number(inside, members.len(), verdicts.len(), words, bytes);
+    let inside = members::members_inside(members, parts, data);
+    let number = numbers::group_number(inside, members.len(), verdicts.len(), words, bytes);
     if number == 0 {
         let began = last(words);
-        group::settle_all(members, began, parts, data, words, bytes, verdicts);
+        members::settle_all(members, began, parts, data, words, bytes, verdicts);
     }
     number
 }

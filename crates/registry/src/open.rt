@@ -5,7 +5,7 @@ ghost use Rattle.calls.specs.Calls.{OpenPromise};
 pub fn open(words: &mut [u64], bytes: &[u8], last: u64, versions: usize, size: usize) -> u64
     ensures { λ r. ⌜ OpenPromise last versions size (now (words .entry)) (now (bytes .entry)) r (now (words .exit)) (now (bytes .entry)) ⌝ }
 {
-    if memtable::open::open(words, bytes, last, versions, size) {
+    if store::open::open(words, bytes, last, versions, size) {
         return 0;
     }
     9

@@ -1,10 +1,8 @@
 // A request on one of the sixteen sessions.
-use encode::refusal;
 use exec::closing;
-use memtable::valid;
+use parse::request;
 use resp::Fault;
 use resp::Read;
-use resp::request;
 use server::Answer;
 ghost use mathlib.Core.Path.{_≡_};
 ghost use Prim.Native.Nat.{_/_};
@@ -13,7 +11,7 @@ ghost use Rattle.resp.specs.Request.{readRequest};
 ghost use Rattle.server.specs.Places.{PartsIn};
 ghost use Rattle.session.specs.Responds.{Left, Ready};
 ghost use Rattle.calls.specs.Calls.{lentOf, RequestPromise, TablePromise};
-ghost use Rattle.registry.specs.Serving.{requestNumber, FaultLeft, wholeServed, servedIn, TableHolds, ReadyAmong, servedAmong, LeftAmong};
+ghost use Rattle.registry.specs.Serving.{FaultLeft, wholeServed, servedIn, TableHolds};
 
 // The reply to a protocol error, which uses all bytes and clears the session.
 fn answer_fault(input: &[u8], fault: Fault, swords: &mut [u64], out: &mut [u8]) -> Answer
@@ -92,52 +90,6 @@ fn serve(
     }
 }
 
-// Session `session` of the sixteen is lent.
-fn serve_session(
-    session: usize,
-    input: &[u8],
-    places: &mut [u64],
-    words: &mut [u64],
-    bytes: &mut [u8],
-    swords: &mut [u64],
-    sbytes: &mut [u8],
-    out: &mut [u8],
-) -> Answer
-    requires { ⌜ ReadyAmong session (now words) (now bytes) (now swords) (now sbytes) (now out) ⌝ }
-    ensures { λ r. ⌜ LeftAmong session (servedAmong session (length (now (places .entry)) / 2) (length (now (out .entry))) (now (input .entry)) (now (words .entry)) (now (bytes .entry)) (now (swords .entry)) (now (sbytes .entry))) (now (out .entry)) (now (words .entry)) (now (bytes .entry)) (now (swords .entry)) (now (sbytes .entry)) r (now (out .exit)) (now (words .exit)) (now (bytes .exit)) (now (swords .exit)) (now (sbytes .exit)) ⌝ }
-    ensures { λ _. ⌜ TableHolds (readRequest (length (now (places .entry)) / 2) (now (input .entry))) (now (places .exit)) ⌝ }
-{
-    let from = session * 613;
-    let to = from + 613;
-    let start = session * 10240;
-    let end = start + 10240;
-    serve(
-        input,
-        places,
-        words,
-        bytes,
-        &mut swords[from..to],
-        &mut sbytes[start..end],
-        out,
-    )
-}
-
-// The number that leaves all: 1, then 9; or 0.
-fn number(session: usize, words: &[u64], bytes: &[u8], swords: &[u64], sbytes: &[u8]) -> u64
-    ensures { λ r. ⌜ r ≡ requestNumber session (lentOf (now (words .entry)) (now (bytes .entry)) (now (swords .entry)) (now (sbytes .entry))) ⌝ }
-{
-    if 15 < session {
-        return 1;
-    }
-    if valid::validate(words, bytes) {
-        if sessions::sessions_ok(swords, sbytes, words[2]) {
-            return 0;
-        }
-        return 9;
-    }
-    9
-}
-
 // Answers the request at the front of `input` for a session: 0 or a number, the bytes used, and the length of the reply,
 // which stands in front of `out` with zero behind it. `places` holds two words for each argument.
 pub fn request(
@@ -154,9 +106,21 @@ pub fn request(
     ensures { λ _. ⌜ TablePromise session (now (input .entry)) (lentOf (now (words .entry)) (now (bytes .entry)) (now (swords .entry)) (now (sbytes .entry))) (now (places .entry)) (now (places .exit)) ⌝ }
 {
     writing::clear(out);
-    let number = number(session, words, bytes, swords, sbytes);
+    let number = numbers::request_number(session, words, bytes, swords, sbytes);
     if number == 0 {
-        return serve_session(session, input, places, words, bytes, swords, sbytes, out);
+        let from = session * 613;
+        let to = from + 613;
+        let start = session * 10240;
+        let end = start + 10240;
+        return serve(
+            input,
+            places,
+            words,
+            bytes,
+            &mut swords[from..to],
+            &mut sbytes[start..end],
+            out,
+        );
     }
     answer::refusal(number)
 }

@@ -27,7 +27,7 @@ use Rattle.server.specs.Finish.{Served, silent, fitted, finishBy, finish}
 use Rattle.server.specs.Places.{argumentsAt, PartsIn}
 use Rattle.sessions.proofs.Kept.{words-kept, bytes-kept, held-by-tests}
 use Rattle.answer.proofs.Finish.{replied}
-use Rattle.direct.specs.Served.{Answers}
+use Rattle.verdict.specs.Served.{Answers}
 use Rattle.exec.specs.Leaving.{Leaves, execServed}
 use Rattle.server.specs.Watch.{keysWith, watchingWith}
 use Rattle.session.specs.declared.routes.Step.{Step}

@@ -6,10 +6,11 @@ use native.Mathlib.Nat.{add-zero, add-suc, suc-add}
 use native.Mathlib.Numerals.{add-one}
 use native.Mathlib.Omega.{arith}
 use lib.ListN.{length, getD}
+use Rattle.key.proofs.Bytes.{length-part}
 use Rattle.key.specs.Bytes.{Bytes, part}
-use Rattle.server.specs.Names.{Args}
-use Rattle.server.specs.Places.{argumentsAt, lengthsAt}
-use Rattle.server.proofs.Parts.{length-part}
+use Rattle.server.specs.Names.{Args, nameWord, arguments}
+use Rattle.server.specs.Command.{argument}
+use Rattle.server.specs.Places.{argumentsAt, lengthsAt, placesOf}
 
 pub lengths-next : (p : List ℕ) (count i : ℕ) → i < count → lengthsAt i (count - i) p ≡ getD p (2 * i + 1) 0 ∷ lengthsAt (i + 1) (count - (i + 1)) p
 unfolding lengthsAt
@@ -53,3 +54,19 @@ arguments-lengths k zero p s h = refl
 arguments-lengths k (suc n) p s h =
     let e : length (part (getD p (2 * k) 0) (getD p (2 * k + 1) 0) s) ≡ getD p (2 * k + 1) 0 = length-part (getD p (2 * k) 0) (getD p (2 * k + 1) 0) s (h k (omega arith)) in
     λ z. e z ∷ arguments-lengths (suc k) n p s (λ j l. h j (omega arith)) z
+
+-- the arguments behind the name, and the name
+pub arguments-of : (p : List ℕ) (s : Bytes) (count : ℕ) → 1 ≤ count → arguments (argumentsAt 0 count p s) ≡ argumentsAt 1 (count - 1) p s
+unfolding argumentsAt
+arguments-of p s zero h = absurd (omega arith)
+arguments-of p s (suc n) h = let e : n ≡ suc n - 1 = omega arith in ap (λ (m : ℕ). argumentsAt 1 m p s) e
+
+pub name-of : (p : List ℕ) (d : Bytes) (count : ℕ) → 1 ≤ count → nameWord (argumentsAt 0 count p d) ≡ argument 0 (argumentsAt 0 count p d)
+unfolding argumentsAt
+name-of p d zero h = absurd (omega arith)
+name-of p d (suc n) h = refl
+
+pub places-length : (start : ℕ) (ns : List ℕ) → length (placesOf start ns) ≡ 2 * length ns
+unfolding placesOf
+places-length start [] = refl
+places-length start (n ∷ ns) = let e : length (placesOf (start + n) ns) ≡ 2 * length ns = places-length (start + n) ns in omega arith

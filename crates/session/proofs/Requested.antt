@@ -6,6 +6,7 @@ use mathlib.Core.Bool.{Bool, true, false, cond}
 use mathlib.Core.List.{List, _∷_}
 use lib.Dec.{leb}
 use lib.ListN.{length, getD}
+use Rattle.server.proofs.PlaceLaws.{arguments-of}
 use Rattle.key.specs.Bytes.{Bytes, part}
 use Rattle.resp.specs.Reply.{encode}
 use Rattle.memtable.specs.Versions.{Store}
@@ -32,12 +33,6 @@ use Rattle.session.specs.Answers.{changing, Answered, AnsweredAt, Answer
 use Rattle.session.specs.Routes.{routeBy, stepDone, queueing, watchDone, wayDone, routeDone}
 use Rattle.answer.proofs.Finish.{replied}
 use Rattle.session.proofs.Routing.{name-first, request-routed}
-
--- the arguments behind the name
-pub arguments-rest : (count : ℕ) (places : List ℕ) (input : Bytes) → 1 ≤ count → arguments (argumentsAt 0 count places input) ≡ argumentsAt 1 (count - 1) places input
-unfolding argumentsAt
-arguments-rest zero places input h = absurd (omega arith)
-arguments-rest (suc n) places input h = let e : n ≡ suc n - 1 = omega arith in ap (λ (m : ℕ). argumentsAt 1 m places input) e
 
 -- EACH WAY, by its function
 answered-with : {last : ℕ} {w w′ : List ℕ} {b b′ : Bytes} {used : ℕ} {out out′ : Bytes} {r : Answer} (one two : Store → Session → Done) → ((st : Store) (s : Session) → st .last ≡ last → two st s ≡ one st s)
@@ -71,7 +66,7 @@ module _ {way : Way} {last : ℕ} {w w′ : List ℕ} {b b′ : Bytes} {used : �
       (λ st s l. rw e (by-keys st s l)) x
     where
       by-keys : (st : Store) (s : Session) → st .last ≡ last → wayDone Watch row (argumentsAt 0 count places input) st s ≡ watchDone row (argumentsAt 1 (count - 1) places input) last st s
-      by-keys st s l = unfold wayDone in (λ z. watchDone row (arguments-rest count places input k z) (l z) st s)
+      by-keys st s l = unfold wayDone in (λ z. watchDone row (arguments-of places input count k z) (l z) st s)
 
 -- THE ANSWER OF `respond`, by the route
 pub here-answers : (w : List ℕ) (b : Bytes) (a : Args) (row : ℕ) (way : Way) {route : Route} → Looked (nameWord a) row

@@ -1,6 +1,5 @@
 // Replies that leave store and session.
 use server::Answer;
-use server::errors;
 use server::errors::Fixed;
 ghost use mathlib.Core.Path.{_≡_};
 ghost use lib.ListN.{length, replicate};

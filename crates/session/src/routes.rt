@@ -2,7 +2,6 @@
 use server::errors::Fixed;
 use server::names;
 use server::names::Control;
-use sessions::changes;
 ghost use mathlib.Core.Path.{_≡_};
 ghost use Prim.Native.Nat.{_<_};
 ghost use lib.ListN.{length, getD};

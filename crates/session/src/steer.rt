@@ -2,9 +2,7 @@
 use crate::answers;
 use crate::routes::Step;
 use server::Answer;
-use server::errors;
 use server::errors::Fixed;
-use sessions::changes;
 use writing::Put;
 ghost use mathlib.Core.Path.{_≡_};
 ghost use lib.ListN.{length, getD, replicate};

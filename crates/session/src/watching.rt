@@ -1,11 +1,9 @@
 // WATCH outside MULTI.
 use crate::answers;
 use server::Answer;
-use server::errors;
 use server::errors::Fixed;
 use server::names;
 use server::watch::Grown;
-use sessions::watch;
 use writing::Put;
 ghost use mathlib.Core.Path.{_≡_};
 ghost use Prim.Native.Nat.{_-_, _≤_};

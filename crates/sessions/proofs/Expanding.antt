@@ -10,21 +10,19 @@ use borrow.Author.Tests.{leb-true}
 use lib.Dec.{leb}
 use lib.ListN.{length, getD, take, drop, set, length-append, length-set, length-drop}
 use lib.Seq.{drop-cons, drop-drop, take-suc, getD-drop, getD-append-seam, getD-append-add, take-all}
+use Rattle.memtable.specs.Moves.{putAt}
+use Rattle.key.proofs.Bytes.{both-parts, length-part}
+use Rattle.server.proofs.PlaceLaws.{places-length}
 use Rattle.key.specs.Bytes.{Bytes, part, concat, total}
 use Rattle.server.specs.Names.{Args}
 use Rattle.server.specs.Session.{queueFits}
 use Rattle.server.specs.Sessions.{splitBy, queueIn}
-use Rattle.server.specs.Held.{Held, written}
+use Rattle.server.specs.Held.{Held}
 use Rattle.server.specs.Places.{argumentsAt, lengthsAt, PartsIn, HasRoom, placesOf, Expandable}
-use Rattle.server.proofs.Parts.{part-next, part-none, part-start, part-part, length-part, total-append}
+use Rattle.server.proofs.Parts.{part-next, part-none, part-start, part-part, total-append}
 use Rattle.sessions.proofs.Writes.{written-none, written-set}
 use Rattle.sessions.proofs.Kept.{queue-arguments}
 use Rattle.sessions.proofs.Queueing.{fits-as}
-
-places-length : (start : ℕ) (ns : List ℕ) → length (placesOf start ns) ≡ 2 * length ns
-unfolding placesOf
-places-length start [] = refl
-places-length start (n ∷ ns) = let e : length (placesOf (start + n) ns) ≡ 2 * length ns = places-length (start + n) ns in omega arith
 
 places-snoc : (start : ℕ) (ns : List ℕ) (n : ℕ) → placesOf start (ns ++ n ∷ []) ≡ placesOf start ns ++ (start + total ns) ∷ n ∷ []
 unfolding placesOf total
@@ -45,7 +43,7 @@ total-last s n = refl
 pub record Placing (w places : List ℕ) (count : ℕ) (a : List ℕ) (start i : ℕ) : Type 0 where
   pub within : i ≤ count
   pub same : length a ≡ length places
-  pub is : a ≡ written 0 (placesOf 2048 (part 101 i w)) places
+  pub is : a ≡ putAt 0 (placesOf 2048 (part 101 i w)) places
   pub start-is : start ≡ 2048 + total (part 101 i w)
   pub left : start + total (part (101 + i) (count - i) w) ≡ 2048 + total (part 101 count w)
 
@@ -79,9 +77,9 @@ module _ {w places : List ℕ} {count : ℕ} {a : List ℕ} {start i : ℕ} (p :
       let s : part 101 (i + 1) w ≡ ls ++ len ∷ [] = part-snoc w i (omega (arith, x .words, x .few)) ∙ ap (λ (n : ℕ). ls ++ n ∷ []) (sym e) in
       let q : placesOf 2048 (part 101 (i + 1) w) ≡ (t ++ start ∷ []) ++ len ∷ [] =
       ap (placesOf 2048) s ∙ places-snoc 2048 ls len ∙ ap (λ (n : ℕ). t ++ n ∷ len ∷ []) (sym (p .start-is)) ∙ sym (append-assoc t (start ∷ []) (len ∷ [])) in
-      let is′ : set (set a (2 * i) start) (2 * i + 1) len ≡ written 0 (placesOf 2048 (part 101 (i + 1) w)) places =
+      let is′ : set (set a (2 * i) start) (2 * i + 1) len ≡ putAt 0 (placesOf 2048 (part 101 (i + 1) w)) places =
       (λ z. set (set (p .is z) (at₀ z) start) (at₁ z) len) ∙ ap (λ (l : List ℕ). set l (0 + length (t ++ start ∷ [])) len) (written-set 0 t places start (omega (arith, x .table)))
-      ∙ written-set 0 (t ++ start ∷ []) places len (omega (arith, x .table)) ∙ ap (λ (l : List ℕ). written 0 l places) (sym q) in
+      ∙ written-set 0 (t ++ start ∷ []) places len (omega (arith, x .table)) ∙ ap (λ (l : List ℕ). putAt 0 l places) (sym q) in
       record {
         within = omega arith;
         same = length-set (set a (2 * i) start) (2 * i + 1) len ∙ length-set a (2 * i) start ∙ p .same;
@@ -90,8 +88,8 @@ module _ {w places : List ℕ} {count : ℕ} {a : List ℕ} {start i : ℕ} (p :
         left = omega (arith, left-next h);
       }
 
-  pub placed : count ≤ i → a ≡ written 0 (placesOf 2048 (part 101 count w)) places
-  placed h = p .is ∙ ap (λ (n : ℕ). written 0 (placesOf 2048 (part 101 n w)) places) (le-antisymm (p .within) h)
+  pub placed : count ≤ i → a ≡ putAt 0 (placesOf 2048 (part 101 count w)) places
+  placed h = p .is ∙ ap (λ (n : ℕ). putAt 0 (placesOf 2048 (part 101 n w)) places) (le-antisymm (p .within) h)
 
 -- WHAT THE PLACES ARE. Argument j of the table behind 2 k words is argument k + j of the whole.
 arguments-behind : (done rest : List ℕ) (s : Bytes) (k j n : ℕ) → length done ≡ 2 * k → argumentsAt (k + j) n (done ++ rest) s ≡ argumentsAt j n rest s
@@ -120,8 +118,8 @@ arguments-placed from size at (l ∷ ls) rest b h =
     λ i. x i ∷ (y ∙ z) i
 
 -- the table that `expand` leaves holds all arguments of the queue
-pub expanded : {w : List ℕ} {b : Bytes} (h : Held w b) (places : List ℕ) → argumentsAt 0 (total (part 37 (getD w 4 0) w)) (written 0 (placesOf 2048 (part 101 (total (part 37 (getD w 4 0) w)) w)) places) b ≡ concat (queueIn w b)
-unfolding written
+pub expanded : {w : List ℕ} {b : Bytes} (h : Held w b) (places : List ℕ) → argumentsAt 0 (total (part 37 (getD w 4 0) w)) (putAt 0 (placesOf 2048 (part 101 (total (part 37 (getD w 4 0) w)) w)) places) b ≡ concat (queueIn w b)
+unfolding putAt
 expanded {w} {b} h places =
     let n : ℕ = total (part 37 (getD w 4 0) w) in
     let ls : List ℕ = part 101 n w in
@@ -129,11 +127,6 @@ expanded {w} {b} h places =
     ap (λ (m : ℕ). argumentsAt 0 m (placesOf 2048 ls ++ drop (0 + length (placesOf 2048 ls)) places) b) (sym c)
     ∙ arguments-placed 2048 8192 0 ls (drop (0 + length (placesOf 2048 ls)) places) b (omega (arith, h .room))
     ∙ sym (queue-arguments h)
-
--- THE ROOM, from the test of the limits
-and-true : (a b : Bool) → a && b ≡ true → (a ≡ true) × (b ≡ true)
-and-true true b e = (refl, e)
-and-true false b e = let z : _≡_ {A = ℕ} 0 1 = cc in absurd (omega arith)
 
 pub has-room : {w : List ℕ} {b : Bytes} {p : List ℕ} {s : Bytes} {count : ℕ} → Held w b → PartsIn p s count → (getD w 0 0 ≡ 0 → ⊥)
     → queueFits (queueIn w b ++ argumentsAt 0 count p s ∷ []) ≡ true → HasRoom w p count
@@ -143,8 +136,8 @@ has-room {w} {b} {p} {s} {count} h ps inside e =
     let c2 : Bool = leb (n + count) 512 in
     let c3 : Bool = leb (total (part 101 n w) + total (lengthsAt 0 count p)) 8192 in
     let t : (c1 && c2 && c3) ≡ true = sym (fits-as h ps) ∙ e in
-    let r1 = and-true (c1 && c2) c3 t in
-    let r2 = and-true c1 c2 (r1 .0) in
+    let r1 = both-parts (c1 && c2) c3 t in
+    let r2 = both-parts c1 c2 (r1 .0) in
     record {
       inside = inside;
       command = omega (arith, leb-true (getD w 4 0 + 1) 64 (r2 .0));

@@ -9,13 +9,15 @@ use native.Mathlib.Omega.{arith}
 use borrow.Author.Tests.{le-leb, lt-leb, leb-true, leb-false}
 use lib.Dec.{leb}
 use lib.ListN.{length, getD, take, set, length-append, length-set}
+use Rattle.memtable.specs.Moves.{putAt}
+use Rattle.key.proofs.Bytes.{length-part}
 use Rattle.key.specs.Bytes.{Bytes, part, over-front, concat, total}
 use Rattle.server.specs.Session.{queueFits}
 use Rattle.server.specs.Sessions.{queueIn, sessionFrom, flagWord, sessionWords, sessionBytes}
 use Rattle.server.specs.Lent.{capped}
-use Rattle.server.specs.Held.{Held, written}
+use Rattle.server.specs.Held.{Held}
 use Rattle.server.specs.Places.{argumentsAt, lengthsAt, PartsIn, QueueSizes, Takes, HasRoom, queuing, Appended}
-use Rattle.server.proofs.Parts.{length-part, total-append}
+use Rattle.server.proofs.Parts.{total-append}
 use Rattle.sessions.proofs.Validity.{capped-low, capped-high}
 use Rattle.sessions.proofs.Writes.{written-none, written-more, written-set, written-one, written-first, written-second, length-written, over-behind}
 use Rattle.sessions.proofs.Kept.{front-part, data-length, queue-data-length, shape, bytes-shape, queue-count, queue-counts, queue-lengths, queue-bytes, failed-kept, snapshot-kept, watched-kept, keys-table, keys-data}
@@ -78,7 +80,7 @@ module _ {p : List ℕ} {count limit i sum : ℕ} (s : Adding p count limit i su
 pub record Listing (w : List ℕ) (at : ℕ) (p : List ℕ) (count : ℕ) (a : List ℕ) (i : ℕ) : Type 0 where
   pub within : i ≤ count
   pub same : length a ≡ length w
-  pub is : a ≡ written at (lengthsAt 0 i p) w
+  pub is : a ≡ putAt at (lengthsAt 0 i p) w
 
 pub listing-none : (w : List ℕ) (at : ℕ) (p : List ℕ) (count : ℕ) → Listing w at p count w 0
 unfolding lengthsAt
@@ -92,17 +94,17 @@ module _ {w : List ℕ} {at : ℕ} {p : List ℕ} {count : ℕ} {a : List ℕ} {
         within = omega arith;
         same = length-set a _ _ ∙ l .same;
         is = (λ z. set (l .is z) (at + sym c z) (getD p (2 * i + 1) 0)) ∙ written-set at (lengthsAt 0 i p) w (getD p (2 * i + 1) 0) (omega arith)
-            ∙ ap (λ (x : List ℕ). written at x w) (ap (λ (m : ℕ). lengthsAt 0 i p ++ getD p (2 * m + 1) 0 ∷ []) (sym (zero-add i)) ∙ sym (lengths-snoc 0 i p) ∙ ap (λ (m : ℕ). lengthsAt 0 m p) (sym (add-one i)));
+            ∙ ap (λ (x : List ℕ). putAt at x w) (ap (λ (m : ℕ). lengthsAt 0 i p ++ getD p (2 * m + 1) 0 ∷ []) (sym (zero-add i)) ∙ sym (lengths-snoc 0 i p) ∙ ap (λ (m : ℕ). lengthsAt 0 m p) (sym (add-one i)));
       }
 
-  pub listed : count ≤ i → a ≡ written at (lengthsAt 0 count p) w
-  listed h = l .is ∙ ap (λ (m : ℕ). written at (lengthsAt 0 m p) w) (le-antisymm (l .within) h)
+  pub listed : count ≤ i → a ≡ putAt at (lengthsAt 0 count p) w
+  listed h = l .is ∙ ap (λ (m : ℕ). putAt at (lengthsAt 0 m p) w) (le-antisymm (l .within) h)
 
 -- WRITING THE ARGUMENTS: the first i of them stand from `at` on, up to `pos`.
 pub record Storing (b : Bytes) (at : ℕ) (s : Bytes) (p : List ℕ) (count : ℕ) (a : Bytes) (pos i : ℕ) : Type 0 where
   pub within : i ≤ count
   pub same : length a ≡ length b
-  pub is : a ≡ written at (concat (argumentsAt 0 i p s)) b
+  pub is : a ≡ putAt at (concat (argumentsAt 0 i p s)) b
   pub pos-is : pos ≡ at + length (concat (argumentsAt 0 i p s))
   pub left : pos + total (lengthsAt i (count - i) p) ≡ at + total (lengthsAt 0 count p)
 
@@ -135,7 +137,7 @@ module _ {b : Bytes} {at : ℕ} {s : Bytes} {p : List ℕ} {count : ℕ} {a : By
       let l : length (part start (start + len - start) s) ≡ len = ap (λ (n : ℕ). length (part start n s)) m ∙ length-part start len s (omega (arith, ps .inside i h)) in
       omega (arith, next-place h room)
 
-  module _ {start len : ℕ} {a′ : Bytes} (e : start ≡ getD p (2 * i) 0) (f : len ≡ getD p (2 * i + 1) 0) (put-is : a′ ≡ written pos (part start (start + len - start) s) a) (h : i < count)
+  module _ {start len : ℕ} {a′ : Bytes} (e : start ≡ getD p (2 * i) 0) (f : len ≡ getD p (2 * i + 1) 0) (put-is : a′ ≡ putAt pos (part start (start + len - start) s) a) (h : i < count)
       (room : at + total (lengthsAt 0 count p) ≤ length b) where
     argument : part start (start + len - start) s ≡ part (getD p (2 * i) 0) (getD p (2 * i + 1) 0) s
     argument = let m : start + len - start ≡ getD p (2 * i + 1) 0 = omega arith in λ z. part (e z) (m z) s
@@ -153,8 +155,8 @@ module _ {b : Bytes} {at : ℕ} {s : Bytes} {p : List ℕ} {count : ℕ} {a : By
         let x : Bytes = part (getD p (2 * i) 0) (getD p (2 * i + 1) 0) s in
         let t : Bytes = concat (argumentsAt 0 i p s) in
         let r : at + length t + length x ≤ length b = omega (arith, next-left h, k .pos-is, argument-length) in
-        let is′ : a′ ≡ written at (concat (argumentsAt 0 (i + 1) p s)) b =
-        put-is ∙ (λ z. written (k .pos-is z) (argument z) (k .is z)) ∙ written-more at t x b r ∙ ap (λ (y : Bytes). written at y b) (sym stored) in
+        let is′ : a′ ≡ putAt at (concat (argumentsAt 0 (i + 1) p s)) b =
+        put-is ∙ (λ z. putAt (k .pos-is z) (argument z) (k .is z)) ∙ written-more at t x b r ∙ ap (λ (y : Bytes). putAt at y b) (sym stored) in
         let l : length (concat (argumentsAt 0 (i + 1) p s)) ≡ length t + length x = ap length stored ∙ length-append t x in
         record {
           within = omega arith;
@@ -164,8 +166,8 @@ module _ {b : Bytes} {at : ℕ} {s : Bytes} {p : List ℕ} {count : ℕ} {a : By
           left = omega (arith, next-left h);
         }
 
-  pub stored-all : count ≤ i → a ≡ written at (concat (argumentsAt 0 count p s)) b
-  stored-all h = k .is ∙ ap (λ (m : ℕ). written at (concat (argumentsAt 0 m p s)) b) (le-antisymm (k .within) h)
+  pub stored-all : count ≤ i → a ≡ putAt at (concat (argumentsAt 0 count p s)) b
+  stored-all h = k .is ∙ ap (λ (m : ℕ). putAt at (concat (argumentsAt 0 m p s)) b) (le-antisymm (k .within) h)
 
 -- THE LIMITS, in numbers: commands, arguments, bytes
 module _ {w : List ℕ} {b : Bytes} {p : List ℕ} {s : Bytes} {count : ℕ} (h : Held w b) (ps : PartsIn p s count) where
@@ -275,13 +277,13 @@ module _ {w : List ℕ} {b : Bytes} {p : List ℕ} {s : Bytes} {count : ℕ} (h 
   cut = shape w (h .words)
 
   -- the lengths, behind those that are there
-  lengths-put : (m : ℕ) → written (101 + m) (lengthsAt 0 count p) w ≡ (front ++ part 37 64 w) ++ written m (lengthsAt 0 count p) (part 101 512 w)
+  lengths-put : (m : ℕ) → putAt (101 + m) (lengthsAt 0 count p) w ≡ (front ++ part 37 64 w) ++ putAt m (lengthsAt 0 count p) (part 101 512 w)
   lengths-put m =
-      ap (written (101 + m) (lengthsAt 0 count p)) cut
+      ap (putAt (101 + m) (lengthsAt 0 count p)) cut
       ∙ written-second (front ++ part 37 64 w) (part 101 512 w) (lengthsAt 0 count p) 101 m (length-append front (part 37 64 w) ∙ omega (arith, front-length, counts-length))
 
   -- the count, behind those that are there
-  count-put : (l : List ℕ) → set ((front ++ part 37 64 w) ++ l) (37 + getD w 4 0) count ≡ (front ++ written (getD w 4 0) (count ∷ []) (part 37 64 w)) ++ l
+  count-put : (l : List ℕ) → set ((front ++ part 37 64 w) ++ l) (37 + getD w 4 0) count ≡ (front ++ putAt (getD w 4 0) (count ∷ []) (part 37 64 w)) ++ l
   count-put l =
       let e : length (front ++ part 37 64 w) ≡ 101 = length-append front (part 37 64 w) ∙ omega (arith, front-length, counts-length) in
       let f : length ((front ++ part 37 64 w) ++ l) ≡ length (front ++ part 37 64 w) + length l = length-append (front ++ part 37 64 w) l in
@@ -296,35 +298,35 @@ module _ {w : List ℕ} {b : Bytes} {p : List ℕ} {s : Bytes} {count : ℕ} (h 
       go zero f = absurd (f refl)
       go (suc n) f = flag-suc n
 
-  counts-over : over-front (map length (queueIn w b ++ argumentsAt 0 count p s ∷ [])) (part 37 64 w) ≡ written (getD w 4 0) (count ∷ []) (part 37 64 w)
+  counts-over : over-front (map length (queueIn w b ++ argumentsAt 0 count p s ∷ [])) (part 37 64 w) ≡ putAt (getD w 4 0) (count ∷ []) (part 37 64 w)
   counts-over =
       ap (λ (l : List ℕ). over-front l (part 37 64 w)) (appended-counts h ps ∙ ap (λ (l : List ℕ). l ++ count ∷ []) (front-part h 37 64 (getD w 4 0) (h .few-commands)))
       ∙ over-behind (getD w 4 0) (count ∷ []) (part 37 64 w) (omega (arith, counts-length, h .few-commands))
 
-  lengths-over : over-front (map length (concat (queueIn w b ++ argumentsAt 0 count p s ∷ []))) (part 101 512 w) ≡ written (total (part 37 (getD w 4 0) w)) (lengthsAt 0 count p) (part 101 512 w)
+  lengths-over : over-front (map length (concat (queueIn w b ++ argumentsAt 0 count p s ∷ []))) (part 101 512 w) ≡ putAt (total (part 37 (getD w 4 0) w)) (lengthsAt 0 count p) (part 101 512 w)
   lengths-over =
       ap (λ (l : List ℕ). over-front l (part 101 512 w)) (appended-lengths h ps ∙ ap (λ (l : List ℕ). l ++ lengthsAt 0 count p) (front-part h 101 512 (total (part 37 (getD w 4 0) w)) (h .few-arguments)))
       ∙ over-behind (total (part 37 (getD w 4 0) w)) (lengthsAt 0 count p) (part 101 512 w) (omega (arith, table-length, h .few-arguments))
 
-  words-appended : set (set (written (101 + total (part 37 (getD w 4 0) w)) (lengthsAt 0 count p) w) (37 + getD w 4 0) count) 4 (getD w 4 0 + 1)
+  words-appended : set (set (putAt (101 + total (part 37 (getD w 4 0) w)) (lengthsAt 0 count p) w) (37 + getD w 4 0) count) 4 (getD w 4 0 + 1)
       ≡ sessionWords (queuing (queueIn w b ++ argumentsAt 0 count p s ∷ []) (sessionFrom w b)) w b
   unfolding sessionWords front
   words-appended =
       ap (λ (x : List ℕ). set (set x (37 + getD w 4 0) count) 4 (getD w 4 0 + 1)) (lengths-put (total (part 37 (getD w 4 0) w)))
-      ∙ ap (λ (x : List ℕ). set x 4 (getD w 4 0 + 1)) (count-put (written (total (part 37 (getD w 4 0) w)) (lengthsAt 0 count p) (part 101 512 w)))
+      ∙ ap (λ (x : List ℕ). set x 4 (getD w 4 0 + 1)) (count-put (putAt (total (part 37 (getD w 4 0) w)) (lengthsAt 0 count p) (part 101 512 w)))
       ∙ sym (λ z. flag-set z ∷ failed-kept h z ∷ snapshot-kept h z ∷ watched-kept h z ∷ appended-count h ps z ∷ (keys-table h z ++ counts-over z ++ lengths-over z))
 
-  bytes-appended : written (2048 + total (part 101 (total (part 37 (getD w 4 0) w)) w)) (concat (argumentsAt 0 count p s)) b
+  bytes-appended : putAt (2048 + total (part 101 (total (part 37 (getD w 4 0) w)) w)) (concat (argumentsAt 0 count p s)) b
       ≡ sessionBytes (queuing (queueIn w b ++ argumentsAt 0 count p s ∷ []) (sessionFrom w b)) b
   unfolding sessionBytes
   bytes-appended =
       let u : ℕ = total (part 101 (total (part 37 (getD w 4 0) w)) w) in
-      ap (written (2048 + u) (concat (argumentsAt 0 count p s))) (bytes-shape b (h .bytes))
+      ap (putAt (2048 + u) (concat (argumentsAt 0 count p s))) (bytes-shape b (h .bytes))
       ∙ written-second (part 0 2048 b) (part 2048 8192 b) (concat (argumentsAt 0 count p s)) 2048 u (data-length h)
       ∙ sym (λ z. keys-data h z ++ behind-queue z)
     where
       behind-queue : over-front (concat (concat (queueIn w b ++ argumentsAt 0 count p s ∷ []))) (part 2048 8192 b)
-          ≡ written (total (part 101 (total (part 37 (getD w 4 0) w)) w)) (concat (argumentsAt 0 count p s)) (part 2048 8192 b)
+          ≡ putAt (total (part 101 (total (part 37 (getD w 4 0) w)) w)) (concat (argumentsAt 0 count p s)) (part 2048 8192 b)
       behind-queue =
           ap (λ (l : Bytes). over-front l (part 2048 8192 b)) (appended-bytes h ps)
           ∙ over-behind (total (part 101 (total (part 37 (getD w 4 0) w)) w)) (concat (argumentsAt 0 count p s)) (part 2048 8192 b) (rw (queue-data-length h) (h .room))
@@ -334,14 +336,14 @@ module _ {w : List ℕ} {b : Bytes} {p : List ℕ} {s : Bytes} {count : ℕ} (h 
 
   -- from the steps' own words
   pub append-left : {n m u : ℕ} {w₁ : List ℕ} {b₁ : Bytes} → n ≡ getD w 4 0 → m ≡ capped 512 (total (part 37 n w)) → u ≡ capped 8192 (total (part 101 m w))
-      → w₁ ≡ written (101 + m) (lengthsAt 0 count p) w → b₁ ≡ written (2048 + u) (concat (argumentsAt 0 count p s)) b
+      → w₁ ≡ putAt (101 + m) (lengthsAt 0 count p) w → b₁ ≡ putAt (2048 + u) (concat (argumentsAt 0 count p s)) b
       → Appended w (set (set w₁ (37 + n) count) 4 (n + 1)) b b₁ (argumentsAt 0 count p s)
   append-left e f g p₁ p₂ =
       let f′ = arguments-are queue-sizes e f in
       let g′ = bytes-are queue-sizes e f g in
       record {
-        words = (λ z. set (set (p₁ z) (37 + e z) count) 4 (e z + 1)) ∙ (λ z. set (set (written (101 + f′ z) (lengthsAt 0 count p) w) (37 + getD w 4 0) count) 4 (getD w 4 0 + 1)) ∙ words-appended;
-        bytes = p₂ ∙ (λ z. written (2048 + g′ z) (concat (argumentsAt 0 count p s)) b) ∙ bytes-appended;
+        words = (λ z. set (set (p₁ z) (37 + e z) count) 4 (e z + 1)) ∙ (λ z. set (set (putAt (101 + f′ z) (lengthsAt 0 count p) w) (37 + getD w 4 0) count) 4 (getD w 4 0 + 1)) ∙ words-appended;
+        bytes = p₂ ∙ (λ z. putAt (2048 + g′ z) (concat (argumentsAt 0 count p s)) b) ∙ bytes-appended;
       }
 
   -- what the steps ask

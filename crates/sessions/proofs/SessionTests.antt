@@ -9,10 +9,9 @@ use lib.Dec.{leb, eqb}
 use lib.ListN.{length, getD, take, drop, length-drop}
 use lib.Seq.{drop-drop}
 use Rattle.key.specs.Bytes.{Bytes, _and_, part, total}
-use Rattle.key.proofs.Bytes.{and-left, and-right}
+use Rattle.key.proofs.Bytes.{and-left, and-right, length-part}
 use Rattle.server.specs.Sessions.{splitBy, ascending, allPositive, allQueueable, yes?, keysIn, queueIn, watchOk, queueOk, sessionOk, sessionsOkIn, validSessions}
 use Rattle.server.specs.Lent.{capped, OneSession, KeysIn, QueueIn, queueSizesOk}
-use Rattle.server.proofs.Parts.{length-part}
 use Rattle.sessions.proofs.Validity.{capped-low, capped-high}
 
 -- a capped number is above the limit if and only if the number is

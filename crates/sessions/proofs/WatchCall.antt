@@ -6,22 +6,23 @@ use Prim.Native.Nat.{ℕ, zero, suc, _+_}
 use native.Mathlib.Omega.{arith}
 use borrow.Author.Tests.{le-leb}
 use lib.ListN.{length, getD, take, set, length-append, drop-of-length-le}
+use Rattle.memtable.specs.Moves.{putAt}
+use Rattle.key.proofs.Bytes.{length-part}
 use Rattle.key.specs.Bytes.{Bytes, part, over-front, concat, total}
 use Rattle.key.specs.Keys.{Key}
 use Rattle.server.specs.declared.watch.Grown.{Grown}
 use Rattle.server.specs.Session.{watchOr, addKeys, watchFits}
 use Rattle.server.specs.Sessions.{splitBy, keysIn, yes?, watchFrom, sessionFrom, sessionWords, sessionBytes}
 use Rattle.server.specs.Lent.{capped}
-use Rattle.server.specs.Held.{Held, written}
+use Rattle.server.specs.Held.{Held}
 use Rattle.server.specs.Watch.{keysOf, WatchTable, Holding, GrownTo, keysWith, watchingWith, AllWatched, watchWords, WatchPut}
-use Rattle.server.proofs.Parts.{length-part}
 use Rattle.sessions.proofs.Validity.{capped-low}
 use Rattle.sessions.proofs.Writes.{written-first, written-second}
 use Rattle.sessions.proofs.Kept.{shape, bytes-shape, front-part, data-length, multi-kept, failed-kept, queued-kept, counts-table, lengths-table, queue-data}
 
 -- a write over the whole list
-pub written-whole : (x l : List ℕ) → length l ≡ length x → written 0 x l ≡ x
-unfolding written
+pub written-whole : (x l : List ℕ) → length l ≡ length x → putAt 0 x l ≡ x
+unfolding putAt
 written-whole x l e = ap (λ (y : List ℕ). x ++ y) (drop-of-length-le l {i = 0 + length x} (omega arith)) ∙ append-nil x
 
 module _ {w : List ℕ} {b : Bytes} (h : Held w b) where
@@ -53,10 +54,10 @@ module _ {w : List ℕ} {b : Bytes} (h : Held w b) where
   pub keys-with : (ks : List Key) (last : ℕ) → keysWith ks last (sessionFrom w b) ≡ addKeys ks (keysIn w b)
   keys-with ks last = ap (addKeys ks) (held-before last)
 
-  lens-copied : (lens₀ : List ℕ) {lens : List ℕ} → length lens₀ ≡ 32 → lens ≡ written 0 (part 5 32 w) lens₀ → lens ≡ part 5 32 w
+  lens-copied : (lens₀ : List ℕ) {lens : List ℕ} → length lens₀ ≡ 32 → lens ≡ putAt 0 (part 5 32 w) lens₀ → lens ≡ part 5 32 w
   lens-copied lens₀ l p = p ∙ written-whole (part 5 32 w) lens₀ (l ∙ sym table-length)
 
-  text-copied : (text₀ : Bytes) {text : Bytes} → length text₀ ≡ 2048 → text ≡ written 0 (part 0 2048 b) text₀ → text ≡ part 0 2048 b
+  text-copied : (text₀ : Bytes) {text : Bytes} → length text₀ ≡ 2048 → text ≡ putAt 0 (part 0 2048 b) text₀ → text ≡ part 0 2048 b
   text-copied text₀ l p = p ∙ written-whole (part 0 2048 b) text₀ (l ∙ sym (data-length h))
 
   -- the table and the bytes, copied
@@ -105,22 +106,22 @@ module _ {w : List ℕ} {b : Bytes} (h : Held w b) where
       count-after = g .count-is ∙ ap length (with-keys ks last)
 
       -- the table and the bytes back in their places
-      table-back : length lens′ ≡ 32 → written 5 lens′ w ≡ getD w 0 0 ∷ getD w 1 0 ∷ getD w 2 0 ∷ getD w 3 0 ∷ getD w 4 0 ∷ (lens′ ++ part 37 64 w ++ part 101 512 w)
+      table-back : length lens′ ≡ 32 → putAt 5 lens′ w ≡ getD w 0 0 ∷ getD w 1 0 ∷ getD w 2 0 ∷ getD w 3 0 ∷ getD w 4 0 ∷ (lens′ ++ part 37 64 w ++ part 101 512 w)
       table-back k =
           let five : List ℕ = getD w 0 0 ∷ getD w 1 0 ∷ getD w 2 0 ∷ getD w 3 0 ∷ getD w 4 0 ∷ [] in
           let l : length (part 5 32 w ++ part 37 64 w) ≡ length (part 5 32 w) + length (part 37 64 w) = length-append (part 5 32 w) (part 37 64 w) in
-          ap (written 5 lens′) (shape w (h .words)) ∙ written-second five (part 5 32 w ++ part 37 64 w ++ part 101 512 w) lens′ 5 0 refl
+          ap (putAt 5 lens′) (shape w (h .words)) ∙ written-second five (part 5 32 w ++ part 37 64 w ++ part 101 512 w) lens′ 5 0 refl
           ∙ ap (λ (x : List ℕ). five ++ x)
           (written-first (part 5 32 w ++ part 37 64 w) (part 101 512 w) lens′ 0 (omega (arith, table-length))
           ∙ ap (λ (x : List ℕ). x ++ part 101 512 w) (written-first (part 5 32 w) (part 37 64 w) lens′ 0 (omega (arith, table-length))
           ∙ ap (λ (x : List ℕ). x ++ part 37 64 w) (written-whole lens′ (part 5 32 w) (table-length ∙ sym k))))
 
-      bytes-back : length text′ ≡ 2048 → written 0 text′ b ≡ text′ ++ part 2048 8192 b
+      bytes-back : length text′ ≡ 2048 → putAt 0 text′ b ≡ text′ ++ part 2048 8192 b
       bytes-back k =
-          ap (written 0 text′) (bytes-shape b (h .bytes)) ∙ written-first (part 0 2048 b) (part 2048 8192 b) text′ 0 (omega (arith, data-length h))
+          ap (putAt 0 text′) (bytes-shape b (h .bytes)) ∙ written-first (part 0 2048 b) (part 2048 8192 b) text′ 0 (omega (arith, data-length h))
           ∙ ap (λ (x : Bytes). x ++ part 2048 8192 b) (written-whole text′ (part 0 2048 b) (data-length h ∙ sym k))
 
-      module _ {w₁ : List ℕ} {b₁ : Bytes} (a : length lens′ ≡ 32) (c : length text′ ≡ 2048) (p₁ : w₁ ≡ written 5 lens′ w) (q₁ : b₁ ≡ written 0 text′ b) where
+      module _ {w₁ : List ℕ} {b₁ : Bytes} (a : length lens′ ≡ 32) (c : length text′ ≡ 2048) (p₁ : w₁ ≡ putAt 5 lens′ w) (q₁ : b₁ ≡ putAt 0 text′ b) where
         bytes-end : b₁ ≡ sessionBytes (watchingWith ks last (sessionFrom w b)) b
         unfolding sessionBytes
         bytes-end = q₁ ∙ bytes-back c ∙ sym (λ z. sym bytes-after z ++ queue-data h z)
@@ -147,7 +148,7 @@ module _ {w : List ℕ} {b : Bytes} (h : Held w b) where
 
 -- THE STEPS of adding keys in working memory
 module _ {w : List ℕ} {b : Bytes} {n u : ℕ} (h : Held w b) (e : n ≡ getD w 3 0) (f : u ≡ capped 2048 (total (part 5 n w))) (lens₀ : List ℕ) (text₀ : Bytes) {lens : List ℕ} {text : Bytes}
-    (k : length lens₀ ≡ 32) (l : length text₀ ≡ 2048) (p : lens ≡ written 0 (part 5 32 w) lens₀) (q : text ≡ written 0 (part 0 2048 b) text₀) where
+    (k : length lens₀ ≡ 32) (l : length text₀ ≡ 2048) (p : lens ≡ putAt 0 (part 5 32 w) lens₀) (q : text ≡ putAt 0 (part 0 2048 b) text₀) where
   pub copied-table : WatchTable lens text n u
   copied-table = watch-table h e f (lens-copied h lens₀ k p) (text-copied h text₀ l q)
 
@@ -156,12 +157,12 @@ module _ {w : List ℕ} {b : Bytes} {n u : ℕ} (h : Held w b) (e : n ≡ getD w
   copied-grown = grown-here h e f (lens-copied h lens₀ k p) (text-copied h text₀ l q)
 
 -- THE KEYS PUT BACK
-module _ {w w₁ : List ℕ} {b b₁ : Bytes} {lens : List ℕ} {text : Bytes} {n : ℕ} (e : n ≡ getD w 3 0) (count last : ℕ) (p : w₁ ≡ written 5 lens w) (q : b₁ ≡ written 0 text b) where
+module _ {w w₁ : List ℕ} {b b₁ : Bytes} {lens : List ℕ} {text : Bytes} {n : ℕ} (e : n ≡ getD w 3 0) (count last : ℕ) (p : w₁ ≡ putAt 5 lens w) (q : b₁ ≡ putAt 0 text b) where
   pub put-first : n ≡ 0 → WatchPut lens text count last w (set (set w₁ 3 count) 2 last) b b₁
   unfolding watchWords
   put-first z = record {
     words = ap (λ (x : List ℕ). set (set x 3 count) 2 last) p
-        ∙ ap (λ (m : ℕ). cond (yes? m) (set (written 5 lens w) 3 count) (set (set (written 5 lens w) 3 count) 2 last)) (sym (sym e ∙ z));
+        ∙ ap (λ (m : ℕ). cond (yes? m) (set (putAt 5 lens w) 3 count) (set (set (putAt 5 lens w) 3 count) 2 last)) (sym (sym e ∙ z));
     bytes = q;
   }
 
@@ -172,7 +173,7 @@ module _ {w w₁ : List ℕ} {b b₁ : Bytes} {lens : List ℕ} {text : Bytes} {
     bytes = q;
   }
     where
-      go : (m : ℕ) → (m ≡ 0 → ⊥) → set (written 5 lens w) 3 count ≡ cond (yes? m) (set (written 5 lens w) 3 count) (set (set (written 5 lens w) 3 count) 2 last)
+      go : (m : ℕ) → (m ≡ 0 → ⊥) → set (putAt 5 lens w) 3 count ≡ cond (yes? m) (set (putAt 5 lens w) 3 count) (set (set (putAt 5 lens w) 3 count) 2 last)
       go zero f = absurd (f refl)
       go (suc m) f = refl
 
@@ -189,13 +190,13 @@ module _ {w w′ : List ℕ} {b b′ : Bytes} (h : Held w b) (ks : List Key) {le
       held : Holding (addKeys ks (keysOf (part 5 32 w) (part 0 2048 b) (getD w 3 0))) (part 5 32 w) lens (part 0 2048 b) text count u
       held = subst (λ (js : List Key). Holding (addKeys ks js) (part 5 32 w) lens (part 0 2048 b) text count u) (sym (keys-are h refl u₀ refl refl)) g
 
-      back : (x : List ℕ) → watchWords lens count last w ≡ x → AllWatched ks last w x b (written 0 text b) → AllWatched ks last w w′ b b′
+      back : (x : List ℕ) → watchWords lens count last w ≡ x → AllWatched ks last w x b (putAt 0 text b) → AllWatched ks last w w′ b b′
       back x e r = record { fits = r .fits; words = p .words ∙ e ∙ r .words; bytes = p .bytes ∙ r .bytes }
 
       go : (n : ℕ) → getD w 3 0 ≡ n → AllWatched ks last w w′ b b′
-      go zero e = back (set (set (written 5 lens w) 3 count) 2 last)
-          (ap (λ (m : ℕ). cond (yes? m) (set (written 5 lens w) 3 count) (set (set (written 5 lens w) 3 count) 2 last)) e)
+      go zero e = back (set (set (putAt 5 lens w) 3 count) 2 last)
+          (ap (λ (m : ℕ). cond (yes? m) (set (putAt 5 lens w) 3 count) (set (set (putAt 5 lens w) 3 count) 2 last)) e)
           (first-watch h refl u₀ refl refl ks last held a c refl refl e)
-      go (suc n) e = back (set (written 5 lens w) 3 count)
-          (ap (λ (m : ℕ). cond (yes? m) (set (written 5 lens w) 3 count) (set (set (written 5 lens w) 3 count) 2 last)) e)
+      go (suc n) e = back (set (putAt 5 lens w) 3 count)
+          (ap (λ (m : ℕ). cond (yes? m) (set (putAt 5 lens w) 3 count) (set (set (putAt 5 lens w) 3 count) 2 last)) e)
           (later-watch h refl u₀ refl refl ks last held a c refl refl (λ z. absurd (omega (arith, e, z))))

@@ -11,19 +11,20 @@ use lib.Dec.{leb}
 use lib.ListN.{length, getD, take, drop, set, length-append, length-set, length-take, length-drop, take-append-drop}
 use lib.Seq.{slice, slice-cons, slice-empty, take-suc, drop-cons, set-at, getD-take, getD-drop, length-take-le, drop-drop, take-take, take-all, take-add, take-at, drop-at, drop-append-le, drop-append-add, take-append-le, take-append-add, take-nil, drop-nil}
 use lib.ListN.{List·getD-append, drop-of-length-le, length-map}
+use Rattle.memtable.proofs.Moves.{Moving, moving-all}
+use Rattle.memtable.specs.Moves.{putAt, movedUp}
 use Rattle.key.specs.declared.Order.{Order}
 use Rattle.key.specs.declared.Order.the-variants.{Less, Equal, Greater}
 use Rattle.key.specs.Bytes.{Bytes, part, over-front, concat, total}
 use Rattle.key.specs.Keys.{Key, compareKeys}
 use Rattle.server.specs.Session.{addKey, addKeys, watchFits}
 use Rattle.server.specs.Sessions.{splitBy}
-use Rattle.server.specs.Held.{written}
 use Rattle.server.specs.Places.{argumentsAt, PartsIn}
-use Rattle.server.specs.Watch.{keysOf, KeysAt, insertedAt, movedUp, SpotAt, Spotted, Holding, GrownTo, WatchTable}
-use Rattle.server.proofs.Parts.{split-drop, split-length, split-lengths, split-concat, over-own, total-append, length-part}
+use Rattle.server.specs.Watch.{keysOf, KeysAt, insertedAt, SpotAt, Spotted, Holding, GrownTo, WatchTable}
+use Rattle.server.proofs.Parts.{split-drop, split-length, split-lengths, split-concat, over-own, total-append}
 use Rattle.sessions.proofs.Writes.{written-one, length-written}
 use Rattle.sessions.proofs.Queueing.{map-append, concat-append, concat-length}
-use Rattle.key.proofs.Bytes.{length-over-front}
+use Rattle.key.proofs.Bytes.{length-over-front, over-front-again, length-part}
 use Rattle.server.specs.declared.watch.Spot.{Spot}
 use Rattle.server.specs.declared.watch.Spot.the-variants as spot
 use Rattle.server.specs.declared.watch.Grown.{Grown}
@@ -135,63 +136,9 @@ module _ {lens : List ℕ} {text : Bytes} {count : ℕ} {name : Key} {start i : 
         is = s .is ∙ ap (λ (l : List Key). take i (keysOf lens text count) ++ addKey name l) d ∙ ap (λ (l : List Key). take i (keysOf lens text count) ++ (name ∷ l)) (sym d);
       }
 
--- A MOVE UP. A step: the element at i goes up, where all from suc i on have gone
-module _ {A : Type 0} (d : A) (l : List A) (to by i : ℕ) (h : i < to) (room : to + by ≤ length l) where
-  rest : List A
-  rest = slice (suc i) to l ++ drop (to + by) l
-
-  read-is : getD (movedUp (suc i) to by l) i d ≡ getD l i d
-  unfolding movedUp
-  read-is =
-      List·getD-append (take (suc i + by) l) _ d i (rw (length-take-le (suc i + by) l (omega arith)) (omega arith))
-      ∙ getD-take (suc i + by) l i d (omega arith)
-
-  spread : movedUp (suc i) to by l ≡ take (i + by) l ++ (getD l (i + by) d ∷ rest)
-  unfolding movedUp rest
-  spread =
-      ap (λ (x : List A). x ++ rest) (ap (λ (n : ℕ). take n l) (suc-add i by) ∙ take-suc l (i + by) d (omega arith))
-      ∙ append-assoc (take (i + by) l) (getD l (i + by) d ∷ []) rest
-
-  pub moved-step : set (movedUp (suc i) to by l) (i + by) (getD (movedUp (suc i) to by l) i d) ≡ movedUp i to by l
-  unfolding movedUp rest
-  moved-step =
-      rw (read-is, spread)
-      (set-at (take (i + by) l) _ rest (getD l i d) (i + by) (length-take-le (i + by) l (omega arith))
-      ∙ ap (λ (x : List A). take (i + by) l ++ (x ++ drop (to + by) l)) (sym (slice-cons i to l d h (omega arith))))
-
-pub record Moving (l : List ℕ) (from to by : ℕ) (a : List ℕ) (j : ℕ) : Type 0 where
-  pub low : from ≤ j
-  pub high : j ≤ to
-  pub is : a ≡ movedUp j to by l
-  pub same : length a ≡ length l
-
-pub moving-none : (l : List ℕ) (from to by : ℕ) → from ≤ to → Moving l from to by l to
-unfolding movedUp
-moving-none l from to by h = record {
-  low = h;
-  high = omega arith;
-  is = sym (simp slice-empty (take-append-drop (to + by) l));
-  same = refl;
-}
-
-module _ {l : List ℕ} {from to by : ℕ} {a : List ℕ} {j : ℕ} (m : Moving l from to by a j) where
-  pub moving-more : to + by ≤ length l → from < j → Moving l from to by (set a (j - 1 + by) (getD a (j - 1) 0)) (j - 1)
-  moving-more room h =
-      let e : j ≡ suc (j - 1) = omega arith in
-      let q : a ≡ movedUp (suc (j - 1)) to by l = m .is ∙ ap (λ (x : ℕ). movedUp x to by l) e in
-      record {
-        low = omega arith;
-        high = omega arith;
-        is = rw q (moved-step 0 l to by (j - 1) (omega arith) room);
-        same = length-set a _ _ ∙ m .same;
-      }
-
-  pub moving-all : j ≤ from → a ≡ movedUp from to by l
-  moving-all h = m .is ∙ ap (λ (x : ℕ). movedUp x to by l) (le-antisymm h (m .low))
-
 -- a write into the gap that a move leaves puts `x` between
-pub gap-written : (l x : List ℕ) (at n : ℕ) → at ≤ n → n + length x ≤ length l → written at x (movedUp at n (length x) l) ≡ over-front (insertedAt at x (take n l)) l
-unfolding written movedUp insertedAt over-front
+pub gap-written : (l x : List ℕ) (at n : ℕ) → at ≤ n → n + length x ≤ length l → putAt at x (movedUp at n (length x) l) ≡ over-front (insertedAt at x (take n l)) l
+unfolding putAt movedUp insertedAt over-front
 gap-written l x at n h k =
     let moved : List ℕ = take (at + length x) l ++ (slice at n l ++ drop (n + length x) l) in
     let tl : length (take (at + length x) l) ≡ at + length x = length-take-le (at + length x) l (omega arith) in
@@ -212,11 +159,11 @@ pub word-inserted : {l : List ℕ} {at n : ℕ} {a : List ℕ} {j : ℕ} (value 
     → set a at value ≡ over-front (insertedAt at (value ∷ []) (take n l)) l
 word-inserted {l} {at} {n} {a} {j} value m h i k =
     let e : a ≡ movedUp at n 1 l = moving-all m h in
-    written-one at value a (omega (arith, m .same)) ∙ ap (written at (value ∷ [])) e ∙ gap-written l (value ∷ []) at n i k
+    written-one at value a (omega (arith, m .same)) ∙ ap (putAt at (value ∷ [])) e ∙ gap-written l (value ∷ []) at n i k
 
-pub bytes-inserted : (l x : List ℕ) (at n : ℕ) {a a′ : List ℕ} → a ≡ movedUp at n (length x) l → a′ ≡ written at x a → at ≤ n → n + length x ≤ length l
+pub bytes-inserted : (l x : List ℕ) (at n : ℕ) {a a′ : List ℕ} → a ≡ movedUp at n (length x) l → a′ ≡ putAt at x a → at ≤ n → n + length x ≤ length l
     → a′ ≡ over-front (insertedAt at x (take n l)) l
-bytes-inserted l x at n e f h k = f ∙ ap (written at x) e ∙ gap-written l x at n h k
+bytes-inserted l x at n e f h k = f ∙ ap (putAt at x) e ∙ gap-written l x at n h k
 
 -- PUT BETWEEN, seen through `map` and `concat`.
 map-take : {A B : Type 0} (f : A → B) (n : ℕ) (l : List A) → map f (take n l) ≡ take n (map f l)
@@ -402,13 +349,6 @@ split-back (j ∷ js) rest =
     let d : drop (length j) ((j ++ concat js) ++ rest) ≡ concat js ++ rest = ap (drop (length j)) e ∙ drop-at j (concat js ++ rest) (length j) refl in
     λ z. t z ∷ (ap (splitBy (map length js)) d ∙ split-back js rest) z
 
-over-over : {A : Type 0} (f g l : List A) → length f ≤ length g → over-front g (over-front f l) ≡ over-front g l
-unfolding over-front
-over-over f g l h =
-    let n : ℕ = length g - length f in
-    let e : length g ≡ length f + n = omega arith in
-    ap (λ (x : List _). g ++ x) (ap (λ (m : ℕ). drop m (f ++ drop (length f) l)) e ∙ drop-append-add f (drop (length f) l) n ∙ drop-drop n (length f) l ∙ ap (λ (m : ℕ). drop m l) (sym e))
-
 module _ {js : List Key} {lens lens′ : List ℕ} {text text′ : Bytes} {n u : ℕ} (h : Holding js lens lens′ text text′ n u) where
   front-lengths : take n lens′ ≡ map length js
   unfolding over-front
@@ -439,8 +379,8 @@ holding-then {js} {ks} {l₀} {l₁} {l₂} {t₀} {t₁} {t₂} a p b = record 
   short = b .short;
   count-is = b .count-is;
   used-is = b .used-is;
-  table = b .table ∙ ap (over-front (map length ks)) (a .table) ∙ over-over (map length js) (map length ks) l₀ (rw (length-map js length, length-map ks length) (p .keys));
-  bytes = b .bytes ∙ ap (over-front (concat ks)) (a .bytes) ∙ over-over (concat js) (concat ks) t₀ (rw (concat-length js, concat-length ks) (p .bytes));
+  table = b .table ∙ ap (over-front (map length ks)) (a .table) ∙ over-front-again (map length ks) (map length js) l₀ (rw (length-map js length, length-map ks length) (p .keys));
+  bytes = b .bytes ∙ ap (over-front (concat ks)) (a .bytes) ∙ over-front-again (concat ks) (concat js) t₀ (rw (concat-length js, concat-length ks) (p .bytes));
 }
 
 -- THE WALK OVER THE KEYS of the places from `from` to `to`: those before i are added.

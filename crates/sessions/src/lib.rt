@@ -1,7 +1,4 @@
 // One session in its own lent words and bytes, and all sixteen (layout at the head of `specs/Sessions.antt` of `server`): validity.
-pub mod changes;
-pub mod queue;
-pub mod watch;
 
 use key::Order;
 use server::names;

@@ -3,7 +3,7 @@ use batch::Member;
 use memtable::Found;
 use memtable::live;
 use memtable::read;
-use memtable::valid;
+use store::valid;
 ghost use mathlib.Core.Path.{_≡_};
 ghost use Prim.Native.Nat.{_/_};
 ghost use lib.ListN.{length};

@@ -1,43 +1,15 @@
 //! What a call of the library costs at 16, 128, 1,024 and 16,384 versions, as a table in Markdown: the validity of the lent state alone,
 //! GET, and SET. Each figure is the least of five rounds.
-use station::core::{self, Lent, SESSIONS, SESSION_BYTES, SESSION_WORDS};
+use station::core::{self, Memory};
 use std::time::Instant;
 
 const ROUNDS: usize = 5;
 const SIZES: [usize; 4] = [16, 128, 1024, 16_384];
 
-struct Store {
-    words: Vec<u64>,
-    bytes: Vec<u8>,
-    session_words: Vec<u64>,
-    session_bytes: Vec<u8>,
-    places: Vec<u64>,
-    reply: Vec<u8>,
-}
-
-impl Store {
-    fn open(versions: usize) -> Store {
-        let mut store = Store {
-            words: vec![0; 5 + 4 * versions],
-            bytes: vec![0; 64 * versions],
-            session_words: vec![0; SESSIONS * SESSION_WORDS],
-            session_bytes: vec![0; SESSIONS * SESSION_BYTES],
-            places: vec![0; 2048],
-            reply: vec![0; 256],
-        };
-        assert_eq!(core::open(&mut store.words, &store.bytes, 0, versions, 64 * versions), 0);
-        store
-    }
-
-    fn ask(&mut self, input: &[u8]) -> u64 {
-        let lent = Lent {
-            words: &mut self.words,
-            bytes: &mut self.bytes,
-            session_words: &mut self.session_words,
-            session_bytes: &mut self.session_bytes,
-        };
-        core::request(0, input, &mut self.places, lent, &mut self.reply).number
-    }
+fn open(versions: usize) -> Memory {
+    let mut memory = Memory::zeros(5 + 4 * versions, 64 * versions, 1024, 256);
+    assert_eq!(core::open(&mut memory.words, &memory.bytes, 0, versions, 64 * versions), 0);
+    memory
 }
 
 fn set(i: usize) -> Vec<u8> {
@@ -45,10 +17,10 @@ fn set(i: usize) -> Vec<u8> {
 }
 
 /// A store with this many versions, one for each key, and room for `more`.
-fn filled(versions: usize, more: usize) -> Store {
-    let mut store = Store::open(versions + more);
+fn filled(versions: usize, more: usize) -> Memory {
+    let mut store = open(versions + more);
     for i in 0..versions {
-        assert_eq!(store.ask(&set(i)), 0);
+        assert_eq!(store.request(0, &set(i)).number, 0);
     }
     store
 }
@@ -64,7 +36,7 @@ fn asking(versions: usize, input: impl Fn(usize) -> Vec<u8>) -> u128 {
     least(|| {
         let begin = Instant::now();
         for input in &inputs {
-            assert_eq!(store.ask(input), 0);
+            assert_eq!(store.request(0, input).number, 0);
         }
         (begin.elapsed().as_nanos(), inputs.len())
     })
@@ -75,7 +47,7 @@ fn setting(versions: usize) -> u128 {
         let mut store = filled(versions, 16);
         let begin = Instant::now();
         for i in 0..16 {
-            assert_eq!(store.ask(&set(i * 7919 % versions)), 0);
+            assert_eq!(store.request(0, &set(i * 7919 % versions)).number, 0);
         }
         (begin.elapsed().as_nanos(), 16)
     })

@@ -1,6 +1,6 @@
 //! damage SEED STATES GROUPS: damaged lent states give 9 and nothing changes; groups that meet 6, 7, 8 and 255 give the verdicts of
 //! document 01 and leave the store that it says. Store, sessions, argument table, reply and verdicts are compared byte by byte.
-use station::core::{self, Answer, Lent, Member, SESSIONS, SESSION_BYTES, SESSION_WORDS};
+use station::core::{self, Answer, Member, Memory, SESSIONS, SESSION_BYTES, SESSION_WORDS};
 use station::groups::{lent, Group, Plain, Store};
 use station::layout::{self, ARGUMENT_COUNTS, ARGUMENT_LENGTHS, WATCH_BYTES, WATCH_LENGTHS};
 use station::random::Random;
@@ -13,65 +13,37 @@ const SIZE: usize = 900;
 /// Words and bytes behind the capacities, which no call touches.
 const BEHIND: usize = 7;
 
-/// The lent state with an argument table and a reply buffer.
-#[derive(Clone, PartialEq)]
-struct State {
-    words: Vec<u64>,
-    bytes: Vec<u8>,
-    session_words: Vec<u64>,
-    session_bytes: Vec<u8>,
-    places: Vec<u64>,
-    reply: Vec<u8>,
+fn open(random: &mut Random) -> Memory {
+    let fill = |random: &mut Random, n: usize| (0..n).map(|_| random.next() as u8).collect::<Vec<u8>>();
+    let mut state = Memory {
+        words: (0..5 + 4 * VERSIONS + BEHIND).map(|_| random.next()).collect(),
+        bytes: fill(random, SIZE + BEHIND),
+        session_words: vec![0; SESSIONS * SESSION_WORDS + BEHIND],
+        session_bytes: fill(random, SESSIONS * SESSION_BYTES + BEHIND),
+        places: vec![77; 64],
+        reply: fill(random, 4096),
+    };
+    assert_eq!(core::open(&mut state.words, &state.bytes, 0, VERSIONS, SIZE), 0);
+    state
 }
 
-impl State {
-    fn open(random: &mut Random) -> State {
-        let fill = |random: &mut Random, n: usize| (0..n).map(|_| random.next() as u8).collect::<Vec<u8>>();
-        let mut state = State {
-            words: (0..5 + 4 * VERSIONS + BEHIND).map(|_| random.next()).collect(),
-            bytes: fill(random, SIZE + BEHIND),
-            session_words: vec![0; SESSIONS * SESSION_WORDS + BEHIND],
-            session_bytes: fill(random, SESSIONS * SESSION_BYTES + BEHIND),
-            places: vec![77; 64],
-            reply: fill(random, 4096),
-        };
-        assert_eq!(core::open(&mut state.words, &state.bytes, 0, VERSIONS, SIZE), 0);
-        state
-    }
-
-    fn request(&mut self, session: usize, input: &[u8]) -> Answer {
-        let lent = Lent { words: &mut self.words, bytes: &mut self.bytes, session_words: &mut self.session_words, session_bytes: &mut self.session_bytes };
-        core::request(session, input, &mut self.places, lent, &mut self.reply)
-    }
-
-    fn store_ok(&self) -> bool {
-        layout::versions(&self.words, &self.bytes).is_some()
-    }
-
-    fn sessions_ok(&self) -> bool {
-        self.words.len() > 2 && layout::sessions_ok(&self.session_words, &self.session_bytes, self.words[2])
-    }
-
-    fn same_lent(&self, other: &State) -> bool {
-        self.words == other.words && self.bytes == other.bytes && self.session_words == other.session_words && self.session_bytes == other.session_bytes
-    }
+fn store_ok(state: &Memory) -> bool {
+    layout::versions(&state.words, &state.bytes).is_some()
 }
 
-fn line(words: &[&[u8]]) -> Vec<u8> {
-    let mut out = format!("*{}\r\n", words.len()).into_bytes();
-    for word in words {
-        out.extend(format!("${}\r\n", word.len()).into_bytes());
-        out.extend_from_slice(word);
-        out.extend(b"\r\n");
-    }
-    out
+fn sessions_ok(state: &Memory) -> bool {
+    state.words.len() > 2 && layout::sessions_ok(&state.session_words, &state.session_bytes, state.words[2])
+}
+
+fn same_lent(one: &Memory, two: &Memory) -> bool {
+    one.words == two.words && one.bytes == two.bytes && one.session_words == two.session_words && one.session_bytes == two.session_bytes
 }
 
 /// A good state with versions, watches and queues, made by requests.
-fn lived(random: &mut Random) -> State {
-    let mut state = State::open(random);
-    let send = |state: &mut State, session: usize, words: &[&[u8]]| {
-        let answer = state.request(session, &line(words));
+fn lived(random: &mut Random) -> Memory {
+    let mut state = open(random);
+    let send = |state: &mut Memory, session: usize, words: &[&[u8]]| {
+        let answer = state.request(session, &core::array(words));
         assert!(answer.number == 0 || answer.number == 6, "a good state answered number {}", answer.number);
     };
     for _ in 0..1 + random.below(50) {
@@ -97,13 +69,13 @@ fn lived(random: &mut Random) -> State {
             }
         }
     }
-    assert!(state.store_ok() && state.sessions_ok(), "the calls left good memory");
+    assert!(store_ok(&state) && sessions_ok(&state), "the calls left good memory");
     readings_agree(&state);
     state
 }
 
 /// The walk and the readings give the live keys that the layout shows.
-fn readings_agree(state: &State) {
+fn readings_agree(state: &Memory) {
     let versions = layout::versions(&state.words, &state.bytes).expect("a good store");
     let newest = |i: usize| i == 0 || versions[i - 1].0 != versions[i].0;
     let due: Vec<(&[u8], &[u8])> =
@@ -122,21 +94,21 @@ fn readings_agree(state: &State) {
 const HUGE: [u64; 6] = [u64::MAX, u64::MAX - 1, 1 << 63, 1 << 62, 1 << 32, 100_000];
 
 /// A session that has this many watched keys, or queued commands, at least.
-fn session_with(state: &State, random: &mut Random, word: usize, least: u64) -> Option<usize> {
+fn session_with(state: &Memory, random: &mut Random, word: usize, least: u64) -> Option<usize> {
     let from = random.below(SESSIONS);
     (0..SESSIONS).map(|i| (from + i) % SESSIONS * SESSION_WORDS).find(|at| least <= state.session_words[at + word])
 }
 
 /// Two versions of one key, one behind the other.
-fn twins(state: &State, random: &mut Random) -> Option<usize> {
+fn twins(state: &Memory, random: &mut Random) -> Option<usize> {
     let found = layout::versions(&state.words, &state.bytes)?;
     let places: Vec<usize> = (1..found.len()).filter(|&i| found[i - 1].0 == found[i].0).collect();
     (!places.is_empty()).then(|| *random.pick(&places))
 }
 
-type Damage = fn(&mut State, &mut Random) -> Option<()>;
+type Damage = fn(&mut Memory, &mut Random) -> Option<()>;
 
-fn row(state: &State, random: &mut Random) -> Option<usize> {
+fn row(state: &Memory, random: &mut Random) -> Option<usize> {
     (state.words[0] > 0).then(|| 5 + 4 * random.below(state.words[0] as usize))
 }
 
@@ -214,7 +186,7 @@ fn fail(what: &str, detail: &str) -> ! {
 }
 
 /// A request on a damaged state: the number, nothing used, the reply buffer zero, all else as it was.
-fn refused_request(state: &State, what: &str, random: &mut Random) {
+fn refused_request(state: &Memory, what: &str, random: &mut Random) {
     let session = if random.once_in(8) { 16 + random.below(3) } else { random.below(SESSIONS) };
     let mut after = state.clone();
     let answer = after.request(session, *random.pick(&REQUESTS));
@@ -222,7 +194,7 @@ fn refused_request(state: &State, what: &str, random: &mut Random) {
     if answer != (Answer { number, used: 0, reply: 0 }) {
         fail(what, &format!("session {session}: {answer:?} in place of number {number}"));
     }
-    if !after.same_lent(state) || after.places != state.places {
+    if !same_lent(&after, state) || after.places != state.places {
         fail(what, "lent memory changed");
     }
     if after.reply.iter().any(|b| *b != 0) {
@@ -231,12 +203,12 @@ fn refused_request(state: &State, what: &str, random: &mut Random) {
 }
 
 /// The calls that are lent the store alone.
-fn refused_store(state: &State, what: &str) {
+fn refused_store(state: &Memory, what: &str) {
     let group = lent(&[Plain { read: None, writes: vec![(b"a".to_vec(), Some(b"1".to_vec()))], checks: vec![] }]);
     let mut after = state.clone();
     let mut verdicts = [170u8; 3];
     let number = core::group(&group.members, &group.parts, &group.data, &mut verdicts, &mut after.words, &mut after.bytes);
-    if number != 9 || verdicts != [170; 3] || !after.same_lent(state) {
+    if number != 9 || verdicts != [170; 3] || !same_lent(&after, state) {
         fail(what, &format!("a group call returned {number}, verdicts {verdicts:?}"));
     }
     if core::read(&state.words, &state.bytes, b"a") != Err(9) || core::entry(&state.words, &state.bytes, 0).number != 9 {
@@ -260,9 +232,9 @@ fn damage_states(random: &mut Random, count: usize) {
         if damage(&mut state, random).is_none() {
             continue;
         }
-        let store_ok = state.store_ok();
+        let store_ok = store_ok(&state);
         // A damage may by chance give another good state, as a longer key before a version without bytes.
-        if store_ok && state.sessions_ok() {
+        if store_ok && sessions_ok(&state) {
             continue;
         }
         refused_request(&state, what, random);
@@ -298,16 +270,16 @@ fn random_words(random: &mut Random, count: usize) {
             let word = *random.pick(&[0, 1, 2, 3, 4, 5, 6, 7, 37, 38, 39, 101, 102, 103, 104]);
             state.session_words[session + word] = value;
         }
-        let bad = !(state.store_ok() && state.sessions_ok());
+        let bad = !(store_ok(&state) && sessions_ok(&state));
         let mut after = state.clone();
         let answer = after.request(random.below(SESSIONS), *random.pick(&REQUESTS));
         if bad != (answer.number == 9) {
             fail("a word of any value", &format!("number {} where 9 is {bad}", answer.number));
         }
-        if answer.number != 0 && answer.number != 4 && !after.same_lent(&state) {
+        if answer.number != 0 && answer.number != 4 && !same_lent(&after, &state) {
             fail("a word of any value", "a number changed lent memory");
         }
-        if answer.number == 0 && !(after.store_ok() && after.sessions_ok()) {
+        if answer.number == 0 && !(store_ok(&after) && sessions_ok(&after)) {
             fail("a word of any value", "a good state became a bad one");
         }
         *(if bad { &mut nines } else { &mut others }) += 1;

@@ -1,5 +1,6 @@
 //! lockstep REFERENCE SEED CALLS: the library beside a program that speaks the form of `frames`, on the same generated frames,
 //! until so many request calls were made. Prints the first line that differs and fails; a number counts as a difference.
+use station::core;
 use station::frames::{hex, Frames, LIMIT};
 use station::random::Random;
 use std::io::{Read, Write};
@@ -111,7 +112,7 @@ impl Source {
         if self.random.once_in(2) && words.iter().all(|w| !w.is_empty() && w.iter().all(|b| !b" \t\n\x0c\r".contains(b))) && words[0][0] != b'*' {
             return [words.join(&b' '), b"\r\n".to_vec()].concat();
         }
-        encode(&words)
+        core::array(&words)
     }
 
     /// The frames of one or several requests: mostly whole, now and then cut in two.
@@ -127,20 +128,10 @@ impl Source {
     }
 }
 
-fn encode(words: &[Vec<u8>]) -> Vec<u8> {
-    let mut out = format!("*{}\r\n", words.len()).into_bytes();
-    for word in words {
-        out.extend(format!("${}\r\n", word.len()).into_bytes());
-        out.extend_from_slice(word);
-        out.extend(b"\r\n");
-    }
-    out
-}
-
 /// The table by the library's readings is what session 0 is told by KEYS and GET; the lines and answers join the run.
 fn show_table(frames: &mut Frames, input: &mut Vec<String>, answers: &mut Vec<String>) {
     let mut ask = |frames: &mut Frames, words: &[Vec<u8>]| {
-        let line = format!("00 {}", hex(&encode(words)));
+        let line = format!("00 {}", hex(&core::array(words)));
         answers.push(frames.line(line.as_bytes()));
         input.push(line);
         answers.last().cloned().unwrap_or_default()
@@ -149,7 +140,7 @@ fn show_table(frames: &mut Frames, input: &mut Vec<String>, answers: &mut Vec<St
     let table: Vec<(Vec<u8>, Vec<u8>)> = frames.table().iter().map(|(k, v)| (k.to_vec(), v.to_vec())).collect();
     let keys: Vec<Vec<u8>> = table.iter().map(|(k, _)| k.clone()).collect();
     let told = ask(frames, &[b"KEYS".to_vec(), b"*".to_vec()]);
-    assert_eq!(told, format!("00 {}", hex(&encode(&keys))), "the table by its readings and by KEYS");
+    assert_eq!(told, format!("00 {}", hex(&core::array(&keys))), "the table by its readings and by KEYS");
     for (key, value) in &table {
         let told = ask(frames, &[b"GET".to_vec(), key.clone()]);
         let bulk = [format!("${}\r\n", value.len()).into_bytes(), value.clone(), b"\r\n".to_vec()].concat();

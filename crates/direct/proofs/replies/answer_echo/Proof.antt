@@ -1,5 +1,5 @@
 -- `direct::replies::answer_echo` meets its contract. Assumes nothing.
-use Rattle.direct.proofs.Served.{runs-quiet}
+use Rattle.verdict.proofs.Served.{runs-quiet}
 use borrow.Author.Needs.{needs}
 use Rattle.direct.proofs.replies.answer_echo.Statement.{statement}
 use Rattle.direct.proofs.replies.answer_echo.Tie as tie

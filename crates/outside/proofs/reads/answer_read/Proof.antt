@@ -1,5 +1,6 @@
 -- `outside::reads::answer_read` meets its contract. Assumes nothing.
-use Rattle.outside.proofs.Answering.{least-echo, least-name, least-one, least-value, runs-arity, runs-echo, runs-live, runs-nothing, runs-says, runs-unknown, runs-value, runs-values}
+use Rattle.command.proofs.KindLaws.{least-one, least-value, least-echo, least-name}
+use Rattle.outside.proofs.Answering.{runs-arity, runs-echo, runs-live, runs-nothing, runs-says, runs-unknown, runs-value, runs-values}
 use borrow.Author.Needs.{needs}
 use Rattle.outside.proofs.reads.answer_read.Statement.{statement}
 use Rattle.outside.proofs.reads.answer_read.Tie as tie

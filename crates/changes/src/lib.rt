@@ -1,0 +1,89 @@
+// Reading the head of one session, and the changes that touch its head alone.
+ghost use mathlib.Core.Path.{_≡_};
+ghost use lib.ListN.{length, getD};
+ghost use Rattle.server.specs.Session.{marked};
+ghost use Rattle.server.specs.Sessions.{yes?};
+ghost use Rattle.server.specs.Held.{Left, cleared, opened, unwatched};
+
+// Is the session inside MULTI?
+pub fn in_multi(words: &[u64]) -> bool
+    requires { ⌜ length (now words) ≡ 613 ⌝ }
+    ensures { λ r. ⌜ r ≡ yes? (getD (now (words .entry)) 0 0) ⌝ }
+{
+    if words[0] == 0 {
+        return false;
+    }
+    true
+}
+
+// Is the session marked failed?
+pub fn failed(words: &[u64]) -> bool
+    requires { ⌜ length (now words) ≡ 613 ⌝ }
+    ensures { λ r. ⌜ r ≡ yes? (getD (now (words .entry)) 1 0) ⌝ }
+{
+    if words[1] == 0 {
+        return false;
+    }
+    true
+}
+
+// The snapshot, meaningful while a key is watched.
+pub fn snapshot(words: &[u64]) -> u64
+    requires { ⌜ length (now words) ≡ 613 ⌝ }
+    ensures { λ r. ⌜ r ≡ getD (now (words .entry)) 2 0 ⌝ }
+{
+    words[2]
+}
+
+pub fn watched_count(words: &[u64]) -> usize
+    requires { ⌜ length (now words) ≡ 613 ⌝ }
+    ensures { λ r. ⌜ r ≡ getD (now (words .entry)) 3 0 ⌝ }
+{
+    sessions::word(words, 3)
+}
+
+pub fn queued_count(words: &[u64]) -> usize
+    requires { ⌜ length (now words) ≡ 613 ⌝ }
+    ensures { λ r. ⌜ r ≡ getD (now (words .entry)) 4 0 ⌝ }
+{
+    sessions::word(words, 4)
+}
+
+// Drops queue, watch and mark.
+pub fn clear(words: &mut [u64])
+    requires { ⌜ length (now words) ≡ 613 ⌝ }
+    ensures { λ _. ⌜ Left cleared (now (words .entry)) (now (words .exit)) ⌝ }
+{
+    words[0] = 0;
+    words[1] = 0;
+    words[3] = 0;
+    words[4] = 0;
+}
+
+// Marks the session failed. A mark that is set stays as it is.
+pub fn mark_failed(words: &mut [u64])
+    requires { ⌜ length (now words) ≡ 613 ⌝ }
+    ensures { λ _. ⌜ Left marked (now (words .entry)) (now (words .exit)) ⌝ }
+{
+    if words[1] == 0 {
+        words[1] = 1;
+        return;
+    }
+}
+
+// Opens MULTI, outside of it: an empty queue, and no mark.
+pub fn open_multi(words: &mut [u64])
+    requires { ⌜ (length (now words) ≡ 613) × (getD (now words) 0 0 ≡ 0) ⌝ }
+    ensures { λ _. ⌜ Left opened (now (words .entry)) (now (words .exit)) ⌝ }
+{
+    words[0] = 1;
+    words[1] = 0;
+}
+
+// Drops the watch.
+pub fn unwatch(words: &mut [u64])
+    requires { ⌜ length (now words) ≡ 613 ⌝ }
+    ensures { λ _. ⌜ Left unwatched (now (words .entry)) (now (words .exit)) ⌝ }
+{
+    words[3] = 0;
+}

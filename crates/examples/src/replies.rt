@@ -1,0 +1,105 @@
+// A reply, written item by item behind one another into a buffer whose size is the record's first byte. An item is a record.
+use crate::lines;
+use crate::records;
+use encode::reply;
+use number::Number;
+use number::integer;
+use resp::clean::Letters;
+use server::errors::Fixed;
+use writing::Put;
+
+fn sum(a: Number, b: Number) -> Number {
+    let Number::Int(x) = a else {
+        return a;
+    };
+    let Number::Int(y) = b else {
+        return a;
+    };
+    integer::checked_sum(x, y)
+}
+
+// A number, or the sum of two: each is a record.
+fn number(bytes: &[u8]) -> Number {
+    let one = records::record_at(bytes, 0);
+    let two = records::record_at(bytes, one.end);
+    sum(
+        integer::int_arg(refusal::part_of(bytes, one.bytes)),
+        integer::int_arg(refusal::part_of(bytes, two.bytes)),
+    )
+}
+
+// An integer reply for `:`, and otherwise the digits alone.
+fn put_number(kind: u8, out: &mut [u8], number: Number) -> Put {
+    let Number::Int(z) = number else {
+        return writing::put_bytes(out, b"none");
+    };
+    if kind == b':' {
+        return reply::put_int(out, z);
+    }
+    decimal::put_decimal(out, z)
+}
+
+// Parts of a buffer, or nil.
+fn put_parts(out: &mut [u8], bytes: &[u8]) -> Put {
+    array::put_parts(out, bytes, &[0u64, 3, 9, 0, 2, 1, 1, 4])
+}
+
+fn put_fixed(kind: u8, out: &mut [u8]) -> Put {
+    match kind {
+        b'_' => reply::put_nil(out),
+        b'0' => reply::put_nil_array(out),
+        b'c' => reply::put_bulk_digits(out, 18446744073709551615),
+        _ => errors::put_fixed(out, Fixed::ExecAbort),
+    }
+}
+
+fn put_quoted(kind: u8, out: &mut [u8], text: &[u8]) -> Put {
+    match kind {
+        b'u' => errors::put_unknown(out, text),
+        b'q' => errors::put_not_queueable(out, text),
+        b'a' => errors::put_arity(out, text),
+        _ => clean::put_clean_lossy(out, text, Letters::AsSent),
+    }
+}
+
+// The head of an array counts the bytes of its item.
+fn put_item(kind: u8, out: &mut [u8], text: &[u8]) -> Put {
+    match kind {
+        b'+' => reply::put_simple(out, text),
+        b'-' => reply::put_error(out, text),
+        b'$' => reply::put_bulk(out, text),
+        b'*' => reply::put_head(out, b'*', text.len() as u64),
+        b'p' => put_parts(out, text),
+        b':' | b'n' => put_number(kind, out, number(text)),
+        b'_' | b'0' | b'c' | b'x' => put_fixed(kind, out),
+        _ => put_quoted(kind, out, text),
+    }
+}
+
+// The reply into the whole of `out`, and the line's end.
+fn reply_in(out: &mut [u8], bytes: &[u8]) {
+    let mut put = Put::Wrote(0);
+    let mut at = 0;
+    let mut turns = bytes.len();
+    while 0 < turns {
+        let one = records::record_at(bytes, at);
+        let from = writing::place(put, out.len());
+        let next = put_item(
+            one.kind,
+            &mut out[from..],
+            refusal::part_of(bytes, one.bytes),
+        );
+        put = writing::joined(out, put, next);
+        at = one.end;
+        turns -= 1;
+    }
+    lines::written(out, put)
+}
+
+pub fn reply(bytes: &[u8]) {
+    let mut buffer = [0u8; 256];
+    if 0 < bytes.len() {
+        let spare = 256 - records::wide(bytes[0]);
+        reply_in(&mut buffer[spare..], &bytes[1..]);
+    }
+}

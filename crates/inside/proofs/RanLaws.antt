@@ -1,0 +1,77 @@
+-- What the commands that set writes leave, from what their steps answer. Assumes nothing.
+use Prim.Native.Nat.{ℕ, _+_, _-_, _*_, _/_, _≤_}
+use native.Mathlib.Omega.{arith}
+use mathlib.Core.Path.{_≡_, refl, sym, ap, _∙_}
+use mathlib.Core.Bool.{Bool, _||_}
+use mathlib.Core.List.{List, [], map, append-nil}
+use lib.ListN.{length}
+use Rattle.server.proofs.CommandLaws.{tombstone-keys}
+use Rattle.server.proofs.PlaceLaws.{arguments-of}
+use Rattle.key.specs.Bytes.{Bytes}
+use Rattle.writing.specs.declared.Put.{Put}
+use Rattle.writing.specs.Puts.{Adds}
+use Rattle.resp.specs.Reply.{encode}
+use Rattle.memtable.specs.Table.{keysOf, lastWrites}
+use Rattle.memtable.specs.Versions.{moved}
+use Rattle.memtable.specs.Rows.{versionsIn}
+use Rattle.batch.specs.Group.{anyKey}
+use Rattle.server.specs.declared.errors.Fixed.the-variants.{Ok}
+use Rattle.server.specs.Names.{Args, arguments}
+use Rattle.server.specs.Command.{put, tombstone, pairsOf}
+use Rattle.server.specs.Errors.{fixedReply}
+use Rattle.server.specs.Places.{argumentsAt}
+use Rattle.command.specs.Meant.{InPairs}
+use Rattle.own.specs.Own.{ownWrites, readerOf}
+use Rattle.own.specs.Changes.{OwnPuts, tombstonesAt, pairsAt}
+use Rattle.inside.specs.declared.Walked.{Walked}
+use Rattle.command.specs.Kinds.{liveReply, pairsEffect, tombstonesEffect}
+use Rattle.inside.specs.Walks.{Ran}
+
+pub pairs-room : (rows count : ℕ) (own : List ℕ) → 4 * (rows + (count - 1)) ≤ length own → InPairs count → 4 * (rows + (count - 1) / 2) ≤ length own
+pairs-room rows count own h i = omega arith
+
+pub pairs-least : {count : ℕ} → InPairs count → 1 ≤ count
+pairs-least i = omega (arith, i .least)
+
+module _ (p : List ℕ) (d : Bytes) (count : ℕ) (h : 1 ≤ count) where
+  pairs-are : pairsAt 1 count p d ≡ map put (pairsOf (arguments (argumentsAt 0 count p d)))
+  pairs-are = ap (λ (x : Args). map put (pairsOf x)) (sym (arguments-of p d count h))
+
+  tombstones-are : tombstonesAt 1 count p d ≡ map tombstone (arguments (argumentsAt 0 count p d))
+  tombstones-are = ap (map tombstone) (sym (arguments-of p d count h))
+
+module _ (w : List ℕ) (b : Bytes) (seq : ℕ) (p : List ℕ) (d : Bytes) (count : ℕ) {own own′ : List ℕ} {out out′ : Bytes} {a : Walked} {rows : ℕ} {m c : Bool} {next : Put} where
+  pub pairs-ran : InPairs count → Adds (encode (fixedReply Ok)) (a .put) out next out′ → OwnPuts own own′ d (a .rows) (pairsAt 1 count p d) ((count - 1) / 2) rows
+      → m ≡ anyKey (moved seq (versionsIn w b)) (keysOf (pairsAt 1 count p d)) → c ≡ (a .conflict || m)
+      → Ran (pairsEffect (argumentsAt 0 count p d)) [] (count - 1) seq w b d own out a own′ out′ (record { rows = rows; used = a .used; conflict = c; put = next })
+  unfolding pairsEffect fixedReply
+  pairs-ran i s o m-is c-is =
+      let l : 1 ≤ count = pairs-least i in
+      record {
+        kept = o .kept;
+        writes = o .is ∙ ap (lastWrites (ownWrites own d (a .rows))) (pairs-are p d count l);
+        few = omega (arith, o .most);
+        used-is = refl;
+        conflict-is = c-is ∙ ap (λ (x : Bool). a .conflict || x) (m-is
+            ∙ ap (anyKey (moved seq (versionsIn w b))) (ap keysOf (pairs-are p d count l) ∙ sym (append-nil (keysOf (map put (pairsOf (arguments (argumentsAt 0 count p d))))))));
+        adds = s;
+        same = o .same;
+      }
+
+  pub tombstones-ran : 1 ≤ count → Adds (encode (liveReply (readerOf own d (a .rows) w b seq) (argumentsAt 0 count p d))) (a .put) out next out′
+      → OwnPuts own own′ d (a .rows) (tombstonesAt 1 count p d) (count - 1) rows
+      → m ≡ anyKey (moved seq (versionsIn w b)) (argumentsAt 1 (count - 1) p d) → c ≡ (a .conflict || m)
+      → Ran (tombstonesEffect (readerOf own d (a .rows) w b seq) (argumentsAt 0 count p d)) [] (count - 1) seq w b d own out a own′ out′ (record { rows = rows; used = a .used; conflict = c; put = next })
+  unfolding tombstonesEffect
+  tombstones-ran l s o m-is c-is =
+      record {
+        kept = o .kept;
+        writes = o .is ∙ ap (lastWrites (ownWrites own d (a .rows))) (tombstones-are p d count l);
+        few = o .most;
+        used-is = refl;
+        conflict-is = c-is ∙ ap (λ (x : Bool). a .conflict || x) (m-is
+            ∙ ap (anyKey (moved seq (versionsIn w b))) (sym (arguments-of p d count l) ∙ sym (tombstone-keys (arguments (argumentsAt 0 count p d)))
+            ∙ sym (append-nil (keysOf (map tombstone (arguments (argumentsAt 0 count p d)))))));
+        adds = s;
+        same = o .same;
+      }

@@ -1,0 +1,176 @@
+// INCR, DECR and INCRBY inside EXEC.
+use crate::Walked;
+use crate::keys;
+use command::arguments::argument;
+use memtable::read;
+use number::Number;
+use number::integer;
+use own::write;
+use reading::counter;
+use server::errors::Fixed;
+use writing::Put;
+ghost use mathlib.Core.Path.{_≡_};
+ghost use mathlib.Core.List.{[], _∷_};
+ghost use mathlib.Core.Option.{some};
+ghost use Prim.Native.Nat.{_+_, _-_, _*_, _≤_};
+ghost use lib.ListN.{length, take};
+ghost use Rattle.key.specs.Bytes.{part};
+ghost use Rattle.memtable.specs.Versions.{moved};
+ghost use Rattle.memtable.specs.Rows.{Valid, versionsIn};
+ghost use Rattle.batch.specs.Settling.{keyPart, KeyIn};
+ghost use Rattle.server.specs.Command.{argument, held};
+ghost use Rattle.server.specs.Places.{argumentsAt, PartsIn};
+ghost use Rattle.own.specs.Own.{Own, readerOf};
+ghost use Rattle.own.specs.Changes.{OwnPut};
+ghost use Rattle.command.specs.Kinds.{counterEffect};
+ghost use Rattle.inside.specs.Walks.{TextPut, CounterSet, CounterError, Advanced};
+
+// The number that the counter that argument 1 names holds.
+fn counter_number(
+    places: &[u64],
+    count: usize,
+    own: &[u64],
+    rows: usize,
+    data: &[u8],
+    words: &[u64],
+    bytes: &[u8],
+    seq: u64,
+) -> Number
+    requires { ⌜ Own (now own) (now «data») rows ⌝ }
+    requires { ⌜ Valid (now words) (now bytes) ⌝ }
+    requires { ⌜ PartsIn (now places) (now «data») count ⌝ }
+    requires { ⌜ 2 ≤ count ⌝ }
+    ensures { λ r. ⌜ r ≡ held (readerOf (now (own .entry)) (now («data» .entry)) rows (now (words .entry)) (now (bytes .entry)) seq (argument 1 (argumentsAt 0 count (now (places .entry)) (now («data» .entry))))) ⌝ }
+{
+    let name = argument(data, places, count, 1);
+    counter::held_number(own, rows, data, words, bytes, seq, name)
+}
+
+// Has the counter that argument 1 names a version above `seq`?
+fn counter_moved(
+    places: &[u64],
+    count: usize,
+    data: &[u8],
+    words: &[u64],
+    bytes: &[u8],
+    seq: u64,
+) -> bool
+    requires { ⌜ Valid (now words) (now bytes) ⌝ }
+    requires { ⌜ PartsIn (now places) (now «data») count ⌝ }
+    requires { ⌜ 2 ≤ count ⌝ }
+    ensures { λ r. ⌜ r ≡ moved seq (versionsIn (now (words .entry)) (now (bytes .entry))) (argument 1 (argumentsAt 0 count (now (places .entry)) (now («data» .entry)))) ⌝ }
+{
+    read::moved(words, bytes, argument(data, places, count, 1), seq)
+}
+
+// Writes the text of a number behind the data in use, and answers where the data in use ends then.
+fn put_text(data: &mut [u8], used: usize, n: i64) -> usize
+    requires { ⌜ used + 20 ≤ length (now «data») ⌝ }
+    ensures { λ r. ⌜ TextPut n (now («data» .entry)) used (now («data» .exit)) r ⌝ }
+{
+    let text = decimal::put_decimal(&mut data[used..], n);
+    let Put::Wrote(len) = text else {
+        return used;
+    };
+    used + len
+}
+
+// Sets the write of argument 1 to what lies in the data from `start` on.
+fn put_counter(places: &[u64], own: &mut [u64], rows: usize, data: &[u8], start: usize) -> usize
+    requires { ⌜ Own (now own) (now «data») rows ⌝ }
+    requires { ⌜ KeyIn (now places) (now «data») 2 ⌝ }
+    requires { ⌜ start ≤ length (now «data») ⌝ }
+    requires { ⌜ 4 * rows + 4 ≤ length (now own) ⌝ }
+    ensures { λ r. ⌜ OwnPut (now (own .entry)) (now (own .exit)) (now («data» .entry)) rows (keyPart (now (places .entry)) (now («data» .entry)) 2) (some (part start (length (now («data» .entry)) - start) (now («data» .entry)))) r ⌝ }
+{
+    let key_start = read::word(places, 2);
+    let key_len = read::word(places, 3);
+    let len = data.len() - start;
+    write::put(own, rows, data, key_start, key_len, start, len + 1)
+}
+
+// A counter set to `n`: the number is answered, and its text is the write of argument 1.
+fn set_counter(
+    places: &[u64],
+    own: &mut [u64],
+    data: &mut [u8],
+    out: &mut [u8],
+    at: Walked,
+    conflict: bool,
+    n: i64,
+) -> Walked
+    requires { ⌜ Own (now own) (take (at .used) (now «data»)) (at .rows) ⌝ }
+    requires { ⌜ KeyIn (now places) (take (at .used) (now «data»)) 2 ⌝ }
+    requires { ⌜ 4 * (at .rows) + 4 ≤ length (now own) ⌝ }
+    requires { ⌜ at .used + 20 ≤ length (now «data») ⌝ }
+    ensures { λ r. ⌜ CounterSet (keyPart (now (places .entry)) (take (at .used) (now («data» .entry))) 2) n conflict (now (own .entry)) (now («data» .entry)) (now (out .entry)) at (now (own .exit)) (now («data» .exit)) (now (out .exit)) r ⌝ }
+{
+    let used = at.used;
+    let put = at.put;
+    let next = items::then_int(out, put, n);
+    let end = put_text(data, used, n);
+    let rows = put_counter(places, own, at.rows, &data[..end], used);
+    Walked {
+        rows: rows,
+        used: end,
+        conflict: conflict,
+        put: next,
+    }
+}
+
+// A counter answered by an error: nothing is set.
+fn answer_error(out: &mut [u8], at: Walked, conflict: bool, which: Fixed) -> Walked
+    ensures { λ r. ⌜ CounterError which conflict (now (out .entry)) at (now (out .exit)) r ⌝ }
+{
+    let put = at.put;
+    let next = errors::then_fixed(out, put, which);
+    Walked {
+        rows: at.rows,
+        used: at.used,
+        conflict: conflict,
+        put: next,
+    }
+}
+
+// The number read and the checked sum, or the error. The key is checked in any case.
+pub fn run_counter(
+    places: &[u64],
+    count: usize,
+    by: i64,
+    own: &mut [u64],
+    data: &mut [u8],
+    words: &[u64],
+    bytes: &[u8],
+    seq: u64,
+    out: &mut [u8],
+    at: Walked,
+) -> Walked
+    requires { ⌜ Own (now own) (take (at .used) (now «data»)) (at .rows) ⌝ }
+    requires { ⌜ Valid (now words) (now bytes) ⌝ }
+    requires { ⌜ PartsIn (now places) (take (at .used) (now «data»)) count ⌝ }
+    requires { ⌜ 2 ≤ count ⌝ }
+    requires { ⌜ 4 * (at .rows + (count - 1)) ≤ length (now own) ⌝ }
+    requires { ⌜ at .used + 20 ≤ length (now «data») ⌝ }
+    ensures { λ r. ⌜ Advanced (counterEffect by (readerOf (now (own .entry)) (take (at .used) (now («data» .entry))) (at .rows) (now (words .entry)) (now (bytes .entry)) seq) (argumentsAt 0 count (now (places .entry)) (take (at .used) (now («data» .entry))))) (argument 1 (argumentsAt 0 count (now (places .entry)) (take (at .used) (now («data» .entry)))) ∷ []) (count - 1) seq (now (words .entry)) (now (bytes .entry)) (now (own .entry)) (now («data» .entry)) (now (out .entry)) at (now (own .exit)) (now («data» .exit)) (now (out .exit)) r ⌝ }
+{
+    let used = at.used;
+    let moved = counter_moved(places, count, &data[..used], words, bytes, seq);
+    let conflict = keys::either(at.conflict, moved);
+    let held = counter_number(
+        places,
+        count,
+        own,
+        at.rows,
+        &data[..used],
+        words,
+        bytes,
+        seq,
+    );
+    let Number::Int(number) = held else {
+        return answer_error(out, at, conflict, Fixed::NotInteger);
+    };
+    let Number::Int(sum) = integer::checked_sum(number, by) else {
+        return answer_error(out, at, conflict, Fixed::Overflow);
+    };
+    set_counter(places, own, data, out, at, conflict, sum)
+}

@@ -1,0 +1,18 @@
+// The commands that EXEC runs: each reads through the writes before it.
+pub mod answers;
+pub mod counters;
+pub mod keys;
+pub mod pairs;
+pub mod queued;
+pub mod tombstones;
+
+use writing::Put;
+
+// How far an EXEC has come: the rows of its own writes, the bytes of the data in use, whether a key that it wrote or checked has
+// moved, and the reply so far.
+pub struct Walked {
+    pub rows: usize,
+    pub used: usize,
+    pub conflict: bool,
+    pub put: Put,
+}

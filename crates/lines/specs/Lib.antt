@@ -1,0 +1,7 @@
+-- The definitions of this crate.
+pub mod Held
+pub mod Line
+pub mod Pieces
+pub mod Quit
+pub mod Rest
+pub mod Served

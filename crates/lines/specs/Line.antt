@@ -1,0 +1,75 @@
+-- What the code says of an input line, in terms of `given` of the registry's definitions.
+use Prim.Native.Nat.{ℕ, _+_, _*_, _≤_}
+use mathlib.Core.List.{List, [], _∷_, _++_}
+use mathlib.Core.Option.{Option, none, some}
+use mathlib.Core.Bool.{true}
+use mathlib.Core.Path.{_≡_}
+use lib.ListN.{length, take, drop}
+use Rattle.key.specs.Bytes.{Bytes}
+use Rattle.calls.specs.Frames as F
+use Rattle.lines.specs.declared.line.Given.{Given}
+use Rattle.lines.specs.declared.line.Given.the-variants.{Frame, Malformed}
+use Rattle.lines.specs.declared.line.Pair.{Pair}
+use Rattle.lines.specs.declared.line.Pair.the-variants.{Byte, NoByte}
+use Rattle.lines.specs.declared.line.Decoded.{Decoded}
+use Rattle.lines.specs.declared.line.Decoded.the-variants.{Bytes as Count, NoBytes}
+use Rattle.lines.specs.declared.line.Head.{Head}
+use Rattle.lines.specs.declared.line.Head.the-variants.{Session, NoSession}
+
+-- a digit's value, or 16
+abbrev pub orSixteen : Option ℕ → ℕ
+orSixteen none = 16
+orSixteen (some v) = v
+
+-- the byte of two digits
+unfoldable pub pairOf : Option ℕ → Option ℕ → Pair
+pairOf none l = NoByte
+pairOf (some h) none = NoByte
+pairOf (some h) (some l) = Byte (h * 16 + l)
+
+-- the count of decoded bytes
+abbrev pub countOf : Option Bytes → Decoded
+countOf none = NoBytes
+countOf (some s) = Count (length s)
+
+-- the decoded bytes, or none
+abbrev pub orNothing : Option Bytes → Bytes
+orNothing none = []
+orNothing (some s) = s
+
+-- what decoding answers, and the front of the buffer afterwards
+pub record Decodes (text entry : Bytes) (r : Decoded) (exit : Bytes) : Type 0 where
+  pub answer : r ≡ countOf (F.unhex text)
+  pub front : take (length (orNothing (F.unhex text))) exit ≡ orNothing (F.unhex text)
+  pub size : length exit ≡ length entry
+
+-- a line whose first three bytes and whose length have the form
+pub record Headed (line : Bytes) (i : ℕ) : Type 0 where
+  pub least : 5 ≤ length line
+  pub most : length line ≤ 8195
+  pub is : F.given line ≡ F.givenOf true i (F.unhex (drop 3 line))
+
+-- what the head of a line tells
+unfoldable pub HeadRead : Bytes → Head → Type 0
+HeadRead line NoSession = F.given line ≡ none
+HeadRead line (Session i) = Headed line i
+
+-- what is lent: 4,096 bytes at least behind the `at` bytes that are held
+pub record Room (at : ℕ) (held : Bytes) : Type 0 where
+  pub behind : at + 4096 ≤ length held
+
+-- the answer to a line
+abbrev pub givenAs : Option F.Given → Given
+givenAs none = Malformed
+givenAs (some g) = Frame (g .session) (length (g .input))
+
+-- the bytes that a line brings
+abbrev pub inputOf : Option F.Given → Bytes
+inputOf none = []
+inputOf (some g) = g .input
+
+-- THE CONTRACT of reading a line: the answer, and the bytes that the session holds afterwards; what lies behind them is working space
+pub record LineRead (line : Bytes) (at : ℕ) (entry : Bytes) (r : Given) (exit : Bytes) : Type 0 where
+  pub answer : r ≡ givenAs (F.given line)
+  pub held : take (at + length (inputOf (F.given line))) exit ≡ take at entry ++ inputOf (F.given line)
+  pub size : length exit ≡ length entry

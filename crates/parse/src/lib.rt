@@ -1,0 +1,3 @@
+// Reading a request from the bytes of a connection (src/resp.rs).
+pub mod argument;
+pub mod request;

@@ -1,0 +1,110 @@
+// The queue of one session: its limits, and a command appended behind it.
+use store::merge;
+ghost use mathlib.Core.Path.{_≡_};
+ghost use Prim.Native.Nat.{_+_, _*_, _≤_};
+ghost use lib.ListN.{length, getD};
+ghost use Rattle.memtable.specs.Moves.{putAt};
+ghost use Rattle.key.specs.Bytes.{part, total, concat};
+ghost use Rattle.server.specs.Lent.{capped};
+ghost use Rattle.server.specs.Held.{Held};
+ghost use Rattle.server.specs.Places.{argumentsAt, lengthsAt, PartsIn, QueueSizes, Takes, HasRoom, Appended, placesOf, Expandable};
+
+// The sum of the lengths of `count` arguments, or one more than `limit` if it is above.
+pub fn lengths_within(places: &[u64], count: usize, limit: usize) -> usize
+    requires { ⌜ (2 * count ≤ length (now places)) × (limit ≤ 8192) ⌝ }
+    ensures { λ r. ⌜ r ≡ capped limit (total (lengthsAt 0 count (now (places .entry)))) ⌝ }
+{
+    let mut sum = 0;
+    let mut i = 0;
+    while i < count {
+        let more = sessions::word(places, 2 * i + 1);
+        if limit - sum < more {
+            return limit + 1;
+        }
+        sum += more;
+        i += 1;
+    }
+    sum
+}
+
+// Does the queue keep within its limits with a command of `count` arguments more?
+pub fn takes(words: &[u64], places: &[u64], count: usize) -> bool
+    requires { ⌜ QueueSizes (now words) ⌝ }
+    requires { ⌜ 2 * count ≤ length (now places) ⌝ }
+    ensures { λ r. ⌜ Takes (now (words .entry)) (now (places .entry)) count r ⌝ }
+{
+    let queued = sessions::word(words, 4);
+    if 64 <= queued {
+        return false;
+    }
+    let arguments = sessions::sum_within(words, 37, queued, 512);
+    if 512 - arguments < count {
+        return false;
+    }
+    let used = sessions::sum_within(words, 101, arguments, 8192);
+    let left = 8192 - used;
+    lengths_within(places, count, left) <= left
+}
+
+// Writes the lengths of `count` arguments at `at`.
+fn put_lengths(words: &mut [u64], at: usize, places: &[u64], count: usize)
+    requires { ⌜ (at + count ≤ length (now words)) × (2 * count ≤ length (now places)) ⌝ }
+    ensures { λ _. ⌜ now (words .exit) ≡ putAt at (lengthsAt 0 count (now (places .entry))) (now (words .entry)) ⌝ }
+{
+    let mut i = 0;
+    while i < count {
+        words[at + i] = places[2 * i + 1];
+        i += 1;
+    }
+}
+
+// Writes `count` arguments one behind the other at `at`.
+fn put_arguments(bytes: &mut [u8], at: usize, input: &[u8], places: &[u64], count: usize)
+    requires { ⌜ PartsIn (now places) (now input) count ⌝ }
+    requires { ⌜ at + total (lengthsAt 0 count (now places)) ≤ length (now bytes) ⌝ }
+    ensures { λ _. ⌜ now (bytes .exit) ≡ putAt at (concat (argumentsAt 0 count (now (places .entry)) (now (input .entry)))) (now (bytes .entry)) ⌝ }
+{
+    let mut pos = at;
+    let mut i = 0;
+    while i < count {
+        let start = sessions::word(places, 2 * i);
+        let len = sessions::word(places, 2 * i + 1);
+        let end = start + len;
+        merge::put(bytes, pos, &input[start..end]);
+        pos += len;
+        i += 1;
+    }
+}
+
+// Appends a command whose arguments are the first `count` places, inside MULTI and with room for it.
+pub fn append(words: &mut [u64], bytes: &mut [u8], input: &[u8], places: &[u64], count: usize)
+    requires { ⌜ Held (now words) (now bytes) ⌝ }
+    requires { ⌜ PartsIn (now places) (now input) count ⌝ }
+    requires { ⌜ HasRoom (now words) (now places) count ⌝ }
+    ensures { λ _. ⌜ Appended (now (words .entry)) (now (words .exit)) (now (bytes .entry)) (now (bytes .exit)) (argumentsAt 0 count (now (places .entry)) (now (input .entry))) ⌝ }
+{
+    let queued = sessions::word(words, 4);
+    let arguments = sessions::sum_within(words, 37, queued, 512);
+    let used = sessions::sum_within(words, 101, arguments, 8192);
+    put_lengths(words, 101 + arguments, places, count);
+    put_arguments(bytes, 2048 + used, input, places, count);
+    words[37 + queued] = count as u64;
+    words[4] = (queued + 1) as u64;
+}
+
+// Writes the places of the first `count` queued arguments in the session's bytes into a table.
+pub fn expand(words: &[u64], places: &mut [u64], count: usize)
+    requires { ⌜ Expandable (now words) (now places) count ⌝ }
+    ensures { λ _. ⌜ now (places .exit) ≡ putAt 0 (placesOf 2048 (part 101 count (now (words .entry)))) (now (places .entry)) ⌝ }
+{
+    let mut start = 2048;
+    let mut i = 0;
+    while i < count {
+        let len = sessions::word(words, 101 + i);
+        let at = 2 * i;
+        places[at] = start as u64;
+        places[at + 1] = len as u64;
+        start += len;
+        i += 1;
+    }
+}

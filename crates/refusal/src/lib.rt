@@ -1,0 +1,123 @@
+// The reply to a protocol error.
+use decimal::digits;
+use encode::reply;
+use parse::argument;
+use resp::Fault;
+use resp::Header;
+use resp::Span;
+use resp::clean::Letters;
+use writing::Put;
+ghost use mathlib.Core.Path.{_≡_};
+ghost use mathlib.Core.List.{map, _++_};
+ghost use Rattle.key.specs.Bytes.{bytes};
+ghost use Rattle.writing.specs.Puts.{Puts, Adds};
+ghost use Rattle.resp.specs.declared.Fault.the-variants.{NotText, NotNumber, OverLimit, NoDollar};
+ghost use Rattle.resp.specs.Request.{spanned, headerName, faultText};
+ghost use Rattle.resp.specs.Reply.{clean, err, encode};
+ghost use Rattle.resp.specs.Letters.{quotingError};
+
+// The bytes of a part of the request; a part beyond the end has none.
+pub fn part_of(input: &[u8], part: Span) -> &[u8]
+    ensures { λ r. ⌜ now r ≡ spanned (now (input .entry)) part ⌝ }
+{
+    let all = input.len();
+    let start = part.start;
+    let len = part.len;
+    if all <= start {
+        return &input[all..];
+    }
+    if all - start < len {
+        return &input[start..];
+    }
+    let end = start + len;
+    &input[start..end]
+}
+
+// Writes what a header counts behind what was put.
+fn then_header_name(out: &mut [u8], put: Put, kind: Header) -> Put
+    ensures { λ r. ⌜ Adds (headerName kind) put (now (out .entry)) r (now (out .exit)) ⌝ }
+{
+    match kind {
+        Header::Multibulk => writing::then_bytes(out, put, b"multibulk length"),
+        Header::Bulk => writing::then_bytes(out, put, b"bulk length"),
+    }
+}
+
+// A header that is not UTF-8.
+fn then_not_text(out: &mut [u8], put: Put, input: &[u8], kind: Header) -> Put
+    ensures { λ r. ⌜ Adds (map clean (faultText (now (input .entry)) (NotText kind))) put (now (out .entry)) r (now (out .exit)) ⌝ }
+{
+    let said = writing::then_bytes(out, put, b"invalid ");
+    then_header_name(out, said, kind)
+}
+
+// A header that is no number, quoted.
+fn then_not_number(out: &mut [u8], put: Put, input: &[u8], kind: Header, part: Span) -> Put
+    ensures { λ r. ⌜ Adds (map clean (faultText (now (input .entry)) (NotNumber kind part))) put (now (out .entry)) r (now (out .exit)) ⌝ }
+{
+    let said = writing::then_bytes(out, put, b"invalid ");
+    let named = then_header_name(out, said, kind);
+    let opened = writing::then_bytes(out, named, b" '");
+    let quoted = clean::then_clean(out, opened, part_of(input, part), Letters::AsSent);
+    writing::then_bytes(out, quoted, b"'")
+}
+
+// A number above the limit.
+fn then_over_limit(out: &mut [u8], put: Put, input: &[u8], kind: Header, n: u64) -> Put
+    ensures { λ r. ⌜ Adds (map clean (faultText (now (input .entry)) (OverLimit kind n))) put (now (out .entry)) r (now (out .exit)) ⌝ }
+{
+    let named = then_header_name(out, put, kind);
+    let parted = writing::then_bytes(out, named, b" ");
+    let counted = digits::then_digits(out, parted, n);
+    let said = writing::then_bytes(out, counted, b" is over the limit of ");
+    digits::then_digits(out, said, argument::limit(kind))
+}
+
+// An argument's line that does not begin with `$`: its first byte, quoted.
+fn then_no_dollar(out: &mut [u8], put: Put, input: &[u8], part: Span) -> Put
+    ensures { λ r. ⌜ Adds (map clean (faultText (now (input .entry)) (NoDollar part))) put (now (out .entry)) r (now (out .exit)) ⌝ }
+{
+    let opened = writing::then_bytes(out, put, b"expected '$', got '");
+    let quoted = clean::then_clean_lossy(out, opened, part_of(input, part), Letters::AsSent);
+    writing::then_bytes(out, quoted, b"'")
+}
+
+// Writes the text of a fault behind what was put.
+fn then_fault(out: &mut [u8], put: Put, input: &[u8], fault: Fault) -> Put
+    ensures { λ r. ⌜ Adds (map clean (faultText (now (input .entry)) fault)) put (now (out .entry)) r (now (out .exit)) ⌝ }
+{
+    match fault {
+        Fault::LineTooLong => writing::then_bytes(out, put, b"line too long"),
+        Fault::NotText(kind) => then_not_text(out, put, input, kind),
+        Fault::NotNumber(kind, part) => then_not_number(out, put, input, kind, part),
+        Fault::OverLimit(kind, n) => then_over_limit(out, put, input, kind, n),
+        Fault::NoDollar(part) => then_no_dollar(out, put, input, part),
+        Fault::NoLineEnd => writing::then_bytes(out, put, b"bulk string not followed by CRLF"),
+    }
+}
+
+// Writes the reply to a fault in `input`.
+pub fn put_fault(out: &mut [u8], input: &[u8], fault: Fault) -> Put
+    ensures { λ r. ⌜ Puts (encode (err (bytes "Protocol error: " ++ faultText (now (input .entry)) fault))) (now (out .entry)) r (now (out .exit)) ⌝ }
+{
+    let named = writing::put_bytes(out, b"-ERR Protocol error: ");
+    let told = then_fault(out, named, input, fault);
+    reply::then_crlf(out, told)
+}
+
+// Writes an error that quotes a word between two texts.
+pub fn put_quoting(
+    out: &mut [u8],
+    before: &[u8],
+    word: &[u8],
+    after: &[u8],
+    letters: Letters,
+) -> Put
+    ensures { λ r. ⌜ Puts (encode (quotingError (now (before .entry)) letters (now (word .entry)) (now (after .entry)))) (now (out .entry)) r (now (out .exit)) ⌝ }
+{
+    let mark = writing::put_byte(out, b'-');
+    let front = clean::then_clean(out, mark, before, Letters::AsSent);
+    let quoted = clean::then_clean_lossy(out, front, word, letters);
+    let back = clean::then_clean(out, quoted, after, Letters::AsSent);
+    reply::then_crlf(out, back)
+}

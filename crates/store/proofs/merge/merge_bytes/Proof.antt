@@ -1,0 +1,31 @@
+-- `store::merge::merge_bytes` meets its contract. The move opens a gap, and the key and the value fill its end. Assumes nothing.
+use Rattle.memtable.proofs.Merging.{bytes-merged}
+use borrow.Author.Needs.{needs}
+use Rattle.store.proofs.merge.merge_bytes.Statement.{statement}
+use Rattle.store.proofs.merge.merge_bytes.Tie as tie
+
+add-at : tie.Need-add-at
+add-at c = search needs
+
+shift-up-requires : tie.Need-shift-up-requires
+shift-up-requires c κs = search needs
+
+put-requires : tie.Need-put-requires
+put-requires c κs = search needs
+
+add-put : tie.Need-add-put
+add-put c = search needs
+
+put-requires-2 : tie.Need-put-requires-2
+put-requires-2 c κs = search needs
+
+same-length : tie.Need-same-length
+same-length c = search needs
+
+returns : tie.Need-returns
+returns c = search bytes-merged
+
+pub merge-bytes-spec : {M : Type 1} → statement M
+merge-bytes-spec =
+    tie.close
+    (tie.spec add-at shift-up-requires put-requires add-put put-requires-2 same-length returns)

@@ -1,0 +1,63 @@
+// Opening an empty store, and the room that is left in one.
+use crate::valid;
+use memtable::open::Left;
+use memtable::read;
+ghost use mathlib.Core.Path.{_≡_};
+ghost use mathlib.Core.Bool.{cond};
+ghost use Prim.Native.Nat.{_+_, _≤_};
+ghost use lib.ListN.{length};
+ghost use Rattle.memtable.specs.Layout.{countWord, usedWord, mostVersionsWord, mostBytesWord, buffersHold, emptyStore, leaveWords};
+ghost use Rattle.memtable.specs.Rows.{bytesLeft, roomIn};
+
+// Writes the header of an empty store.
+fn write_header(words: &mut [u64], last: u64, versions: u64, size: u64)
+    requires { ⌜ 5 ≤ length (now words) ⌝ }
+    ensures { λ _. ⌜ now (words .exit) ≡ leaveWords (emptyStore last versions size) (now (words .entry)) ⌝ }
+{
+    words[0] = 0;
+    words[1] = 0;
+    words[2] = last;
+    words[3] = versions;
+    words[4] = size;
+}
+
+// Writes an empty store with this last sequence and these capacities, if the buffers hold them. It has no bytes, so those stay.
+pub fn open(words: &mut [u64], bytes: &[u8], last: u64, versions: usize, size: usize) -> bool
+    ensures { λ r. ⌜ r ≡ buffersHold (now (words .entry)) (now (bytes .entry)) versions size ⌝ }
+    ensures { λ _. ⌜ now (words .exit) ≡ cond (buffersHold (now (words .entry)) (now (bytes .entry)) versions size) (leaveWords (emptyStore last versions size) (now (words .entry))) (now (words .entry)) ⌝ }
+{
+    if valid::buffers_hold(words, bytes, versions, size) {
+        write_header(words, last, read::wide(versions), read::wide(size));
+        return true;
+    }
+    false
+}
+
+// Is there room for so many more versions and bytes?
+pub fn room(words: &[u64], versions: usize, size: usize) -> bool
+    requires { ⌜ 5 ≤ length (now words) ⌝ }
+    requires { ⌜ countWord (now words) ≤ mostVersionsWord (now words) ⌝ }
+    requires { ⌜ usedWord (now words) ≤ mostBytesWord (now words) ⌝ }
+    ensures { λ r. ⌜ r ≡ roomIn (now (words .entry)) versions size ⌝ }
+{
+    if read::word(words, 3) - read::word(words, 0) < versions {
+        return false;
+    }
+    if read::word(words, 4) - read::word(words, 1) < size {
+        return false;
+    }
+    true
+}
+
+// What a key and a value leave of `left` bytes. It subtracts, so that no sum wraps.
+pub fn take_bytes(left: usize, key_len: usize, value_len: usize) -> Left
+    ensures { λ r. ⌜ r ≡ bytesLeft left («key_len» + «value_len») ⌝ }
+{
+    if left < key_len {
+        return Left::Short;
+    }
+    if left - key_len < value_len {
+        return Left::Short;
+    }
+    Left::Rest(left - key_len - value_len)
+}

@@ -1,0 +1,72 @@
+-- `watch::grow` meets its contract. The table and the bytes are copied, and the keys added there, `copied-grown`. Assumes nothing.
+use Prim.Native.Nat.{_-_}
+use Rattle.server.specs.Places.{argumentsAt}
+use Rattle.sessions.proofs.WatchCall.{copied-table, copied-grown}
+use borrow.Author.Needs.{needs}
+use Rattle.watch.proofs.grow.Statement.{statement}
+use Rattle.watch.proofs.grow.Tie as tie
+
+word-requires : tie.Need-word-requires
+word-requires c κs = search needs
+
+sum-within-requires : tie.Need-sum-within-requires
+sum-within-requires c κs = search needs
+
+sub-put-words : tie.Need-sub-put-words
+sub-put-words c = search needs
+
+part-put-words-start : tie.Need-part-put-words-start
+part-put-words-start c = search needs
+
+part-put-words-end : tie.Need-part-put-words-end
+part-put-words-end c = search needs
+
+put-words-requires : tie.Need-put-words-requires
+put-words-requires c κs = search needs
+
+sub-put : tie.Need-sub-put
+sub-put c = search needs
+
+part-put-start : tie.Need-part-put-start
+part-put-start c = search needs
+
+part-put-end : tie.Need-part-put-end
+part-put-end c = search needs
+
+put-requires : tie.Need-put-requires
+put-requires c κs = search needs
+
+add-keys-requires : tie.Need-add-keys-requires
+add-keys-requires c κs = (search copied-table, (search needs, search needs))
+
+same-length : tie.Need-same-length
+same-length c = search needs
+
+same-length-2 : tie.Need-same-length-2
+same-length-2 c = search needs
+
+returns : tie.Need-returns
+returns c =
+    let start = c .before .before .before .before .before .before .before .before .before .before .before .before .before .before .before .before .before .before .before .before .before .before .before .before .before in
+    let added = c .before .before .before .before .add-keys in
+    copied-grown (start .pre .0) (c .before .before .before .before .before .before .before .before .before .before .before .before .before .before .before .before .before .before .word .ensures) (c .before .before .before .before .before .before .before .before .before .before .before .before .before .before .before .before .before .sum-within .ensures) _ _ (start .pre .1 .1 .1) (start .pre .1 .1 .2) (c .before .before .before .before .before .before .before .before .before .before .before .before .before .before .put-words .ensures) (c .before .before .before .before .before .before .before .before .before .put .ensures)
+    (argumentsAt 1 (start .args .count - 1) (start .args .places .now) (start .args .input .now)) (added .last .0) (added .last .1 .0) (added .result) (added .ensures)
+
+pub grow-spec : {M : Type 1} → statement M
+grow-spec =
+    tie.close
+    (tie.spec
+    word-requires
+    sum-within-requires
+    sub-put-words
+    part-put-words-start
+    part-put-words-end
+    put-words-requires
+    sub-put
+    part-put-start
+    part-put-end
+    put-requires
+    add-keys-requires
+    same-length
+    same-length-2
+    returns)

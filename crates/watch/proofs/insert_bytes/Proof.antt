@@ -1,0 +1,20 @@
+-- `watch::insert_bytes` meets its contract. The move opens a gap, and the bytes fill it. Assumes nothing.
+use borrow.Author.Needs.{needs}
+use Rattle.sessions.proofs.Watching.{bytes-inserted}
+use Rattle.watch.proofs.insert_bytes.Statement.{statement}
+use Rattle.watch.proofs.insert_bytes.Tie as tie
+
+shift-up-requires : tie.Need-shift-up-requires
+shift-up-requires c κs = search needs
+
+put-requires : tie.Need-put-requires
+put-requires c κs = search needs
+
+same-length : tie.Need-same-length
+same-length c = search needs
+
+returns : tie.Need-returns
+returns c = search bytes-inserted
+
+pub insert-bytes-spec : {M : Type 1} → statement M
+insert-bytes-spec = tie.close (tie.spec shift-up-requires put-requires same-length returns)

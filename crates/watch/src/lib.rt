@@ -1,0 +1,168 @@
+// The watched keys of one session, ascending: lengths in a table of 32 words, bytes one behind the other.
+use key::Order;
+use server::watch::Grown;
+use server::watch::Spot;
+use store::merge;
+ghost use mathlib.Core.Path.{_≡_};
+ghost use mathlib.Core.List.{[], _∷_};
+ghost use Prim.Native.Nat.{_+_, _-_, _≤_};
+ghost use lib.ListN.{length, take};
+ghost use Rattle.memtable.specs.Moves.{putAt, movedUp};
+ghost use Rattle.key.specs.Bytes.{part, over-front};
+ghost use Rattle.server.specs.Session.{addKey, addKeys};
+ghost use Rattle.server.specs.Sessions.{keysIn};
+ghost use Rattle.server.specs.Lent.{OneSession};
+ghost use Rattle.server.specs.Held.{Held};
+ghost use Rattle.server.specs.Places.{argumentsAt, PartsIn};
+ghost use Rattle.server.specs.Watch.{keysOf, KeysAt, insertedAt, Spotted, GrownTo, WatchTable, WatchPut};
+
+fn find_spot(lens: &[u64], text: &[u8], count: usize, name: &[u8]) -> Spot
+    requires { ⌜ KeysAt (now lens) (now text) count ⌝ }
+    ensures { λ r. ⌜ Spotted (now (lens .entry)) (now (text .entry)) count (now (name .entry)) r ⌝ }
+{
+    let mut start = 0;
+    let mut i = 0;
+    while i < count {
+        let end = start + sessions::word(lens, i);
+        let order = key::compare(name, &text[start..end]);
+        match order {
+            Order::Less => return Spot::At(i, start),
+            Order::Equal => return Spot::There,
+            Order::Greater => {
+                start = end;
+                i += 1;
+            }
+        }
+    }
+    Spot::At(i, start)
+}
+
+// Puts a word between the first `count`, at `at`.
+fn insert_word(lens: &mut [u64], at: usize, count: usize, value: u64)
+    requires { ⌜ (at ≤ count) × (count + 1 ≤ length (now lens)) ⌝ }
+    ensures { λ _. ⌜ now (lens .exit) ≡ over-front (insertedAt at (value ∷ []) (take count (now (lens .entry)))) (now (lens .entry)) ⌝ }
+{
+    let mut j = count;
+    while at < j {
+        j -= 1;
+        lens[j + 1] = lens[j];
+    }
+    lens[at] = value;
+}
+
+// Puts bytes between the first `used`, at `at`.
+fn insert_bytes(text: &mut [u8], at: usize, used: usize, name: &[u8])
+    requires { ⌜ (at ≤ used) × (used + length (now name) ≤ length (now text)) ⌝ }
+    ensures { λ _. ⌜ now (text .exit) ≡ over-front (insertedAt at (now (name .entry)) (take used (now (text .entry)))) (now (text .entry)) ⌝ }
+{
+    merge::shift_up(text, at, used, name.len());
+    merge::put(text, at, name);
+}
+
+// Adds a key in its place, unless it is there; `Full` if there is no room for it.
+fn add_key(lens: &mut [u64], text: &mut [u8], count: usize, used: usize, name: &[u8]) -> Grown
+    requires { ⌜ WatchTable (now lens) (now text) count used ⌝ }
+    ensures { λ r. ⌜ GrownTo (addKey (now (name .entry)) (keysOf (now (lens .entry)) (now (text .entry)) count)) (now (lens .entry)) (now (lens .exit)) (now (text .entry)) (now (text .exit)) r ⌝ }
+{
+    let spot = find_spot(lens, text, count, name);
+    match spot {
+        Spot::There => Grown::To(count, used),
+        Spot::At(i, start) => {
+            if 32 <= count {
+                return Grown::Full;
+            }
+            let len = name.len();
+            if 2048 - used < len {
+                return Grown::Full;
+            }
+            insert_word(lens, i, count, len as u64);
+            insert_bytes(text, start, used, name);
+            return Grown::To(count + 1, used + len);
+        }
+    }
+}
+
+// Adds the keys of the places from `from` to `to`, each in its place; `Full` if there is no room for them all.
+fn add_keys(
+    lens: &mut [u64],
+    text: &mut [u8],
+    count: usize,
+    used: usize,
+    input: &[u8],
+    places: &[u64],
+    from: usize,
+    to: usize,
+) -> Grown
+    requires { ⌜ WatchTable (now lens) (now text) count used ⌝ }
+    requires { ⌜ PartsIn (now places) (now input) to ⌝ }
+    requires { ⌜ from ≤ to ⌝ }
+    ensures { λ r. ⌜ GrownTo (addKeys (argumentsAt from (to - from) (now (places .entry)) (now (input .entry))) (keysOf (now (lens .entry)) (now (text .entry)) count)) (now (lens .entry)) (now (lens .exit)) (now (text .entry)) (now (text .exit)) r ⌝ }
+{
+    let mut n = count;
+    let mut u = used;
+    let mut i = from;
+    while i < to {
+        let start = sessions::word(places, 2 * i);
+        let end = start + sessions::word(places, 2 * i + 1);
+        let grown = add_key(lens, text, n, u, &input[start..end]);
+        match grown {
+            Grown::Full => return Grown::Full,
+            Grown::To(keys, size) => {
+                n = keys;
+                u = size;
+                i += 1;
+            }
+        }
+    }
+    Grown::To(n, u)
+}
+
+// Writes `src` into `dst` at `at`.
+fn put_words(dst: &mut [u64], at: usize, src: &[u64])
+    requires { ⌜ at + length (now src) ≤ length (now dst) ⌝ }
+    ensures { λ _. ⌜ now (dst .exit) ≡ putAt at (now (src .entry)) (now (dst .entry)) ⌝ }
+{
+    let mut i = 0;
+    while i < src.len() {
+        dst[at + i] = src[i];
+        i += 1;
+    }
+}
+
+// Adds the keys of the places behind the first to the watched ones, in working memory; `Full` if there is no room for them all.
+pub fn grow(
+    words: &[u64],
+    bytes: &[u8],
+    lens: &mut [u64],
+    text: &mut [u8],
+    input: &[u8],
+    places: &[u64],
+    count: usize,
+) -> Grown
+    requires { ⌜ Held (now words) (now bytes) ⌝ }
+    requires { ⌜ PartsIn (now places) (now input) count ⌝ }
+    requires { ⌜ (1 ≤ count) × (length (now lens) ≡ 32) × (length (now text) ≡ 2048) ⌝ }
+    ensures { λ r. ⌜ GrownTo (addKeys (argumentsAt 1 (count - 1) (now (places .entry)) (now (input .entry))) (keysIn (now (words .entry)) (now (bytes .entry)))) (part 5 32 (now (words .entry))) (now (lens .exit)) (part 0 2048 (now (bytes .entry))) (now (text .exit)) r ⌝ }
+{
+    let watched = sessions::word(words, 3);
+    let used = sessions::sum_within(words, 5, watched, 2048);
+    put_words(lens, 0, &words[5..37]);
+    merge::put(text, 0, &bytes[0..2048]);
+    add_keys(lens, text, watched, used, input, places, 1, count)
+}
+
+// Puts the `count` keys of working memory in their places. The first watch fixes the snapshot.
+pub fn keep(words: &mut [u64], bytes: &mut [u8], lens: &[u64], text: &[u8], count: usize, last: u64)
+    requires { ⌜ OneSession (now words) (now bytes) ⌝ }
+    requires { ⌜ (length (now lens) ≡ 32) × (length (now text) ≡ 2048) ⌝ }
+    ensures { λ _. ⌜ WatchPut (now (lens .entry)) (now (text .entry)) count last (now (words .entry)) (now (words .exit)) (now (bytes .entry)) (now (bytes .exit)) ⌝ }
+{
+    let watched = sessions::word(words, 3);
+    put_words(words, 5, lens);
+    merge::put(bytes, 0, text);
+    words[3] = count as u64;
+    if watched == 0 {
+        words[2] = last;
+        return;
+    }
+}
