@@ -7,7 +7,7 @@ use mathlib.Core.Bool.{Bool, true, false, cond}
 use mathlib.Core.Path.{_≡_, refl, sym, subst}
 use lib.Dec.{ltb, eqb}
 use borrow.Author.Tests.{lt-ltb, eq-eqb}
-use Rattle.key.specs.Bytes.{Bytes, _and_}
+use Rattle.key.specs.Bytes.{Bytes}
 use Rattle.key.proofs.Bytes.{and-left, and-right, and-both, neither}
 use Rattle.memtable.specs.Versions.{Store}
 use Rattle.memtable.specs.Layout.{validStore, leaveWords, leaveBytes}

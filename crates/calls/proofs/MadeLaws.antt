@@ -1,18 +1,16 @@
 -- Demand 3 is proved of the calls made through the published functions: what their contracts tell is what the definitions give. Assumes nothing.
-use Prim.Native.Nat.{ℕ, zero, suc, _+_, _-_, _*_, _≤_, min}
+use Prim.Native.Nat.{ℕ, suc, _-_, min}
 use native.Mathlib.Omega.{arith}
-use mathlib.Core.Path.{_≡_, refl, sym, ap, _∙_, subst}
+use mathlib.Core.Path.{_≡_, refl, sym, ap, _∙_}
 use mathlib.Core.Bool.{Bool, true, false, cond}
-use mathlib.Core.List.{List, [], _∷_, _++_, map}
+use mathlib.Core.List.{List, [], _∷_, map}
 use lib.Dec.{ltb}
 use lib.ListN.{length, take, drop, replicate, length-append, length-take, length-replicate}
 use lib.Seq.{take-at}
 use Rattle.key.specs.Bytes.{Bytes, over-front}
-use Rattle.key.specs.Keys.{Key}
 use Rattle.memtable.specs.Versions.{Store}
 use Rattle.memtable.specs.Layout.{buffersHold, validStore, storeIn, emptyStore}
 use Rattle.batch.specs.declared.Member.{Member}
-use Rattle.batch.specs.declared.Verdict.{Verdict}
 use Rattle.batch.specs.declared.Verdict.the-variants.{NotTaken}
 use Rattle.batch.specs.Group.{Pending, Finished, group, taken, memberSize, judgeAll, verdictByte}
 use Rattle.batch.specs.Members.{groupFits, pendingOf}
@@ -20,10 +18,10 @@ use Rattle.batch.proofs.GroupLaws.{verdicts-long}
 use Rattle.server.specs.declared.Answer.{Answer}
 use Rattle.server.specs.Finish.{Served, replyBuffer}
 use Rattle.calls.specs.Serve.{Outcome, refused, answered, serve}
-use Rattle.calls.specs.Calls.{Lent, lentOf, valid, storeOf, sessionOf, leaveServed, refuses, Called, StoreCalled, withStore, refusesStore, givesStore, judged, open-call, request-call, group-call, verdictBuffer, OpenPromise, RequestPromise, GroupPromise, Call, request, grouped, call, outcomes, final}
-use Rattle.calls.specs.Demand3.{Opened, Demand3Holds, without, toOthers, SameBut, Unaltered, PostsNothing, desksAfter, NoNine}
+use Rattle.calls.specs.Calls.{Lent, lentOf, valid, storeOf, sessionOf, leaveServed, refuses, Called, StoreCalled, withStore, refusesStore, givesStore, judged, open-call, request-call, group-call, verdictBuffer, RequestPromise, GroupPromise, Call, request, call, outcomes, final}
+use Rattle.calls.specs.Demand3.{Opened, without, toOthers, SameBut, Unaltered, PostsNothing, desksAfter}
 use Rattle.calls.specs.Posting.{closedDesks}
-use Rattle.calls.specs.Made.{requestSeen, groupSeen, Made, unmade, byRequest, byGroup, Holds, MadeClaim, OpensClaim, SeenAlike, MadeIsolation, MadeHolds}
+use Rattle.calls.specs.Made.{requestSeen, groupSeen, Made, unmade, byRequest, byGroup, Holds, MadeClaim, OpensClaim, MadeIsolation, MadeHolds}
 use Rattle.calls.proofs.Demand3Proved.{demand-3}
 use Rattle.calls.proofs.OpenLaws.{opens}
 

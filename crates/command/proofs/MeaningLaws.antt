@@ -1,13 +1,10 @@
 -- Laws of what a request means, for those who answer it. Assumes nothing.
 use mathlib.Core.Path.{_≡_, ap, _∙_, subst}
 use mathlib.Core.List.{List}
-use Prim.Native.Nat.{ℕ, zero, suc, _-_, _≤_}
-use native.Mathlib.Omega.{arith}
-use Rattle.key.specs.Bytes.{Bytes}
+use Prim.Native.Nat.{ℕ}
 use Rattle.resp.specs.Reply.{Nil}
-use Rattle.server.specs.Names.{Args, arguments}
+use Rattle.server.specs.Names.{Args}
 use Rattle.server.specs.Command.{FIXED, runs, lists, commandIn, executedOf, commandOf}
-use Rattle.server.specs.Places.{argumentsAt}
 use Rattle.command.specs.declared.Command.{Command as CodeCommand}
 use Rattle.command.specs.declared.Listing.{Listing as CodeListing}
 use Rattle.command.specs.declared.Executed.{Executed as CodeExecuted}

@@ -1,5 +1,5 @@
 -- How the answer to a line is begun and ended. Assumes nothing.
-use Prim.Native.Nat.{ℕ, suc, _+_, _-_, _*_, _≤_, _<_, min}
+use Prim.Native.Nat.{ℕ, _+_, _-_, _*_, _≤_, _<_}
 use native.Mathlib.Omega.{arith}
 use mathlib.Core.Path.{_≡_, refl, sym, ap, ap₂, _∙_}
 use mathlib.Core.Bool.{Bool, true, false, cond, _&&_}
@@ -17,7 +17,6 @@ use Rattle.lines.specs.declared.pieces.Mark.the-variants.{Number, Dropped}
 use Rattle.lines.specs.declared.rest.Kept.{Kept}
 use Rattle.lines.specs.declared.rest.Kept.the-variants.{Bytes as Count, TooLong}
 use Rattle.console.specs.declared.serve.Progress.{Progress}
-use Rattle.console.specs.declared.frame.Begun.{Begun}
 use Rattle.console.specs.declared.frame.Begun.the-variants.{Answered, Serve}
 use Rattle.lines.specs.Pieces.{MarkFits, headText, endText, malformedText}
 use Rattle.lines.specs.Line.{givenAs}
@@ -25,7 +24,7 @@ use Rattle.lines.specs.Held.{Memory, countAt, heldAt, slotOf, FrameRead, RestAt
 use Rattle.lines.specs.Rest.{keptOf}
 use Rattle.lines.specs.Served.{markAfter}
 use Rattle.console.specs.Page.{Added, Free}
-use Rattle.console.specs.Lines.{refusedText, beginText, filledOf, begunAs, Begins, markKept, restIn, Ends}
+use Rattle.console.specs.Lines.{refusedText, beginText, begunAs, Begins, markKept, restIn, Ends}
 use Rattle.lines.proofs.HeldLaws.{session-is, input-size}
 use Rattle.lines.proofs.RestLaws.{part-length}
 

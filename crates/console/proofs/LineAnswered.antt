@@ -6,24 +6,22 @@ use mathlib.Core.Bool.{Bool, true, false, cond}
 use mathlib.Core.List.{List, [], _∷_, _++_, append-assoc}
 use mathlib.Core.Option.{Option, none, some}
 use lib.Dec.{ltb}
-use lib.ListN.{length, take, drop, set, getD}
+use lib.ListN.{length, take, drop, set}
 use lib.Seq.{drop-drop, take-all}
 use borrow.Author.Tests.{ltb-true, ltb-false}
 use Rattle.key.specs.Bytes.{Bytes, part}
 use Rattle.calls.specs.Calls.{Lent, valid}
 use Rattle.calls.specs.Frames as F
 use Rattle.lines.specs.declared.pieces.Mark.{Mark}
-use Rattle.lines.specs.declared.pieces.Mark.the-variants.{Number}
 use Rattle.console.specs.declared.serve.Progress.{Progress}
-use Rattle.console.specs.declared.frame.Begun.{Begun}
 use Rattle.console.specs.declared.frame.Begun.the-variants.{Answered as Put, Serve}
-use Rattle.lines.specs.Pieces.{headText, endText, malformedText}
+use Rattle.lines.specs.Pieces.{headText, endText}
 use Rattle.lines.specs.Held.{countAt, heldAt, restsIn}
 use Rattle.lines.specs.Rest.{restOf}
 use Rattle.console.specs.Page.{Added}
 use Rattle.lines.specs.Served.{stateIn, requestsLeft, orSome, Serving, FrameServed, markAfter, Answered}
 use Rattle.console.specs.Steps.{Paused, Over, Reached, SomeServed}
-use Rattle.console.specs.Lines.{refusedText, beginText, begunAs, Begins, restIn, Ends}
+use Rattle.console.specs.Lines.{refusedText, beginText, begunAs, Begins, restIn}
 use Rattle.console.specs.Turns.{outputOf, consoleIn, Turns, over, again, FrameCalls, LineCalls, answered, served, LineAnswered}
 use Rattle.lines.proofs.HeldLaws.{rest-of, rests-many}
 use Rattle.lines.proofs.ServedLaws.{serving-last}

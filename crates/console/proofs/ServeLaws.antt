@@ -4,7 +4,6 @@ use mathlib.Core.Bool.{Bool}
 use mathlib.Core.List.{List}
 use mathlib.Core.Path.{_≡_}
 use lib.ListN.{length}
-use Rattle.key.specs.Bytes.{Bytes}
 use Rattle.calls.specs.Calls.{lentOf}
 use Rattle.console.specs.Steps.{Stepping}
 

@@ -1,10 +1,10 @@
 -- The loop over the requests of a frame, step by step. Assumes nothing.
 use Prim.Native.Nat.{ℕ, _+_, _-_, _/_, _≤_, _<_}
-use native.Mathlib.Decide.{decLe, ℕ-discrete}
+use native.Mathlib.Decide.{decLe}
 use native.Mathlib.Omega.{arith}
 use mathlib.Core.Path.{_≡_, refl, sym, ap, _∙_}
 use mathlib.Core.Bool.{Bool, true, false, cond}
-use mathlib.Core.List.{List, [], _∷_, _++_}
+use mathlib.Core.List.{List, [], _++_}
 use mir.Val.{Fits}
 use mir.Syntax.{w64}
 use lib.Dec.{eqb, leb, ltb}
@@ -21,9 +21,8 @@ use Rattle.lines.specs.declared.pieces.Mark.the-variants.{NoMark, Number}
 use Rattle.console.specs.declared.step.Step.{Step}
 use Rattle.console.specs.declared.step.Step.the-variants.{Refused, Waits, Used}
 use Rattle.lines.specs.Pieces.{MarkFits}
-use Rattle.lines.specs.Served.{Serving, FrameServed, orSome}
-use Rattle.console.specs.declared.serve.Progress.{Progress}
-use Rattle.console.specs.Steps.{doneWith, stepOf, repliedAfter, StepPromise, Stepping, Reached, Paused, Over, SomeServed, Serves}
+use Rattle.lines.specs.Served.{FrameServed, orSome}
+use Rattle.console.specs.Steps.{doneWith, stepOf, repliedAfter, StepPromise, Stepping, Reached, SomeServed, Serves}
 use Rattle.console.specs.Page.{Added, ReplyFits}
 use Rattle.writing.proofs.Lent.{rest}
 use Rattle.lines.proofs.LineLaws.{lent-is}

@@ -8,7 +8,6 @@ use Rattle.key.specs.Bytes.{Bytes, part}
 use Rattle.calls.specs.Calls.{Lent}
 use Rattle.calls.specs.Frames.{Console, frame}
 use Rattle.console.specs.declared.serve.Progress.{Progress}
-use Rattle.console.specs.declared.frame.Begun.{Begun}
 use Rattle.console.specs.declared.frame.Begun.the-variants.{Answered, Serve}
 use Rattle.lines.specs.Served.{stateIn}
 use Rattle.lines.specs.Held.{restsIn}

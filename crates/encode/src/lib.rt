@@ -1,2 +1,2 @@
-// RESP2 (src/resp.rs): the text of replies.
+// RESP2 (src/resp.rs): the text of one reply.
 pub mod reply;

@@ -2,8 +2,6 @@
 use server::glob::Step;
 use server::glob::Walk;
 ghost use mathlib.Core.Path.{_≡_};
-ghost use Prim.Native.Nat.{_≤_};
-ghost use lib.ListN.{length};
 ghost use Rattle.server.specs.Glob.{tokens, matches, someTail, glob};
 ghost use Rattle.server.specs.GlobWalk.{Stepped, Walked};
 

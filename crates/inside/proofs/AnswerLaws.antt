@@ -1,5 +1,5 @@
 -- The replies of the commands that write nothing, from what the code writes. Assumes nothing.
-use Prim.Native.Nat.{ℕ, zero, suc, _-_, _*_, _^_, _≤_, _<_}
+use Prim.Native.Nat.{ℕ, _-_, _*_, _^_, _≤_, _<_}
 use native.Mathlib.Omega.{arith}
 use mathlib.Core.Path.{_≡_, refl, sym, ap, _∙_}
 use mathlib.Core.List.{List}
@@ -17,7 +17,7 @@ use Rattle.writing.proofs.Puts.{same-added}
 use Rattle.resp.specs.Reply.{Reply, Integer, BulkString, Nil, array, bulkOr, encode}
 use Rattle.memtable.specs.Table.{Reader}
 use Rattle.server.specs.declared.errors.Fixed.{Fixed}
-use Rattle.server.specs.Names.{Args, nameWord, arguments}
+use Rattle.server.specs.Names.{Args, arguments}
 use Rattle.server.specs.Command.{argument, live, unknownCommand}
 use Rattle.server.specs.Errors.{fixedReply, arityOf}
 use Rattle.server.specs.Places.{argumentsAt, PartsIn}

@@ -4,14 +4,14 @@ use native.Mathlib.Numerals.{add-two}
 use native.Mathlib.Omega.{arith}
 use mathlib.Core.Path.{_≡_, refl, sym, ap, _∙_}
 use mathlib.Core.Bool.{Bool, true, false, _||_}
-use mathlib.Core.List.{List, [], _∷_, map}
+use mathlib.Core.List.{List, _∷_, map}
 use Rattle.key.specs.Bytes.{Bytes}
 use Rattle.key.specs.Keys.{Key}
 use Rattle.memtable.specs.Table.{keysOf}
 use Rattle.memtable.specs.Versions.{Version, moved}
 use Rattle.batch.specs.Group.{anyKey}
 use Rattle.batch.specs.Settling.{keyPart, KeyIn}
-use Rattle.server.specs.Command.{put, tombstone, pairsOf}
+use Rattle.server.specs.Command.{put, pairsOf}
 use Rattle.server.specs.Places.{argumentsAt, PartsIn}
 use Rattle.own.specs.Changes.{pairsAt}
 use Rattle.own.proofs.ArgumentLaws.{part-in}

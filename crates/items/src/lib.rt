@@ -1,10 +1,9 @@
 // An item behind what was put: its writer is lent the rest of the buffer.
 use encode::reply;
 use writing::Put;
-ghost use mathlib.Core.List.{_∷_, _++_, map};
-ghost use Rattle.writing.specs.Puts.{Puts, Adds};
+ghost use Rattle.writing.specs.Puts.{Adds};
 ghost use Rattle.number.specs.Decimal.{digits};
-ghost use Rattle.resp.specs.Reply.{Simple, Error, Integer, BulkString, Nil, NilArray, clean, crlf, encode, head};
+ghost use Rattle.resp.specs.Reply.{Simple, Error, Integer, BulkString, Nil, NilArray, encode, head};
 
 pub fn then_simple(out: &mut [u8], put: Put, text: &[u8]) -> Put
     ensures { λ r. ⌜ Adds (encode (Simple (now (text .entry)))) put (now (out .entry)) r (now (out .exit)) ⌝ }

@@ -3,9 +3,9 @@ use Prim.Native.Nat.{ℕ, suc, _+_, _-_, _≤_, _<_}
 use native.Mathlib.Decide.{decLe}
 use native.Mathlib.Omega.{arith}
 use mathlib.Core.Path.{_≡_, refl, sym, ap, ap₂, _∙_}
-use mathlib.Core.Bool.{Bool, true, false, cond}
+use mathlib.Core.Bool.{Bool, false}
 use mathlib.Core.List.{List, [], _∷_, _++_, append-assoc}
-use mathlib.Core.Option.{Option, none, some}
+use mathlib.Core.Option.{none, some}
 use lib.ListN.{length, getD, set, length-append}
 use lib.Seq.{set-out}
 use borrow.Author.Tests.{le-leb, lt-leb}
@@ -13,9 +13,9 @@ use Rattle.key.specs.Bytes.{Bytes, bytes}
 use Rattle.number.specs.Decimal.{digits, digitsWithin}
 use Rattle.calls.specs.Serve.{State}
 use Rattle.calls.specs.Calls.{Lent}
-use Rattle.calls.specs.Frames.{Frame, requests, held-rest, hex, orDash, shown, Given, Console, Shown, answerGiven, stops}
+use Rattle.calls.specs.Frames.{Frame, requests, held-rest, hex, shown, Given, Console, answerGiven, stops}
 use Rattle.lines.specs.declared.pieces.Mark.{Mark}
-use Rattle.lines.specs.declared.pieces.Mark.the-variants.{NoMark, Number, Dropped}
+use Rattle.lines.specs.declared.pieces.Mark.the-variants.{Number}
 use Rattle.lines.specs.Pieces.{headText, numberText, malformedText, markText, markOrDash, endText, some?}
 use Rattle.lines.specs.Rest.{restOf}
 use Rattle.lines.specs.Served.{stateIn, requestsLeft, orSome, FrameServed, markAfter, Answered}

@@ -1,14 +1,14 @@
 -- What the sessions hold, before and after a change of one session's part. Assumes nothing.
-use Prim.Native.Nat.{ℕ, zero, suc, _+_, _*_, _-_, _≤_, _<_, min}
+use Prim.Native.Nat.{ℕ, _+_, _*_, _-_, _≤_, _<_, min}
 use native.Mathlib.Decide.{decLe, ℕ-discrete}
 use native.Mathlib.Omega.{arith}
 use mathlib.Core.Path.{_≡_, refl, sym, ap, ap₂, _∙_}
 use mathlib.Core.Bool.{Bool, true, false, cond, _&&_}
-use mathlib.Core.List.{List, [], _∷_, _++_}
+use mathlib.Core.List.{List, [], _++_}
 use mathlib.Core.Option.{Option, none, some}
-use lib.ListN.{length, take, drop, getD, set, length-take, length-drop, length-append, length-set}
+use lib.ListN.{length, take, drop, getD, set, length-take, length-drop, length-set}
 use lib.Dec.{leb}
-use lib.Seq.{drop-at, drop-append-le, take-append-le, ext-getD, take-all, take-at, take-take, drop-drop, getD-drop, getD-take, getD-set-same, getD-set-other, length-take-le}
+use lib.Seq.{drop-at, drop-append-le, take-append-le, ext-getD, take-at, take-take, drop-drop, getD-drop, getD-take, getD-set-same, getD-set-other, length-take-le}
 use borrow.Author.Tests.{leb-true}
 use borrow.Rule.Slice.PartMut.{midOf, putMid, same-len-mid, mid-len, take-put, drop-put}
 use Rattle.key.specs.Bytes.{Bytes, part}
@@ -19,8 +19,8 @@ use Rattle.lines.specs.declared.line.Head.{Head}
 use Rattle.lines.specs.declared.line.Head.the-variants.{Session, NoSession}
 use Rattle.lines.specs.declared.rest.Kept.{Kept}
 use Rattle.lines.specs.declared.rest.Kept.the-variants.{Bytes as Count, TooLong}
-use Rattle.lines.specs.Line.{Headed, HeadRead, Room, givenAs, inputOf, LineRead}
-use Rattle.lines.specs.Rest.{Within, keptOf, heldOf, restOf, Keeps}
+use Rattle.lines.specs.Line.{Headed, HeadRead, inputOf, LineRead}
+use Rattle.lines.specs.Rest.{keptOf, heldOf, restOf, Keeps}
 use Rattle.lines.specs.Served.{listed}
 use Rattle.lines.specs.Held.{Memory, countAt, heldAt, restsIn, slotOf, FrameRead, RestAt, RestKept}
 use Rattle.lines.proofs.LineLaws.{headed, not-given}

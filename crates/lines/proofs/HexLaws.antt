@@ -4,8 +4,7 @@ use native.Mathlib.Decide.{decLe}
 use native.Mathlib.Numerals.{add-one}
 use native.Mathlib.Omega.{arith}
 use mathlib.Core.Path.{_≡_, refl, sym, ap, _∙_}
-use mathlib.Core.Bool.{Bool, true, false}
-use mathlib.Core.List.{List, [], _∷_, _++_, append-assoc, append-nil}
+use mathlib.Core.List.{[], _∷_, _++_, append-assoc, append-nil}
 use mathlib.Core.Option.{Option, none, some}
 use lib.ListN.{length, take, drop, set, getD, drop-of-length-le}
 use lib.Seq.{drop-cons, take-at}
@@ -15,9 +14,8 @@ use Rattle.writing.proofs.Puts.{Written, nothing, stored, same-length}
 use Rattle.calls.specs.Frames.{hexValue, joinHex, unhex}
 use Rattle.lines.specs.declared.line.Pair.{Pair}
 use Rattle.lines.specs.declared.line.Pair.the-variants.{Byte, NoByte}
-use Rattle.lines.specs.declared.line.Decoded.{Decoded}
 use Rattle.lines.specs.declared.line.Decoded.the-variants.{Bytes as Count, NoBytes}
-use Rattle.lines.specs.Line.{orSixteen, pairOf, countOf, orNothing, Decodes}
+use Rattle.lines.specs.Line.{orSixteen, pairOf, Decodes}
 
 -- A DIGIT, by the range of its byte.
 module _ {b : ℕ} where

@@ -1,25 +1,24 @@
 -- The form of a line, and what reading it leaves. Assumes nothing.
-use Prim.Native.Nat.{ℕ, suc, _+_, _-_, _*_, _≤_, _<_}
+use Prim.Native.Nat.{ℕ, _+_, _-_, _*_, _≤_, _<_}
 use native.Mathlib.Omega.{arith}
-use mathlib.Core.Path.{_≡_, refl, sym, ap, ap₂, _∙_}
+use mathlib.Core.Path.{_≡_, refl, sym, ap, _∙_}
 use mathlib.Core.Bool.{Bool, true, false, _&&_}
-use mathlib.Core.List.{List, [], _∷_, _++_, append-nil}
+use mathlib.Core.List.{[], _∷_, _++_, append-nil}
 use mathlib.Core.Option.{Option, none, some}
 use lib.Dec.{leb, eqb}
-use lib.ListN.{length, take, drop, getD, length-append, length-drop, drop-of-length-le}
+use lib.ListN.{length, take, drop, getD, length-drop, drop-of-length-le}
 use lib.Seq.{take-all, take-append-add, length-take-le}
-use borrow.Rule.Slice.PartMut.{midOf, putMid, same-len-mid}
+use borrow.Rule.Slice.PartMut.{same-len-mid}
 use borrow.Author.Tests.{le-leb, lt-leb, eq-eqb, ne-eqb}
 use Rattle.key.specs.Bytes.{Bytes}
 use Rattle.writing.proofs.Lent.{rest, with-rest}
 use Rattle.calls.specs.Frames as F
-use Rattle.lines.specs.declared.line.Given.{Given}
 use Rattle.lines.specs.declared.line.Given.the-variants.{Frame, Malformed}
 use Rattle.lines.specs.declared.line.Decoded.{Decoded}
 use Rattle.lines.specs.declared.line.Decoded.the-variants.{Bytes as Count, NoBytes}
 use Rattle.lines.specs.declared.line.Head.{Head}
 use Rattle.lines.specs.declared.line.Head.the-variants.{Session, NoSession}
-use Rattle.lines.specs.Line.{countOf, orNothing, Decodes, Headed, HeadRead, Room, givenAs, inputOf, LineRead}
+use Rattle.lines.specs.Line.{countOf, orNothing, Decodes, Headed, HeadRead, Room, LineRead}
 use Rattle.lines.proofs.HexLaws.{unhex-length}
 
 -- A LINE OF ANOTHER FORM

@@ -3,15 +3,14 @@ use Prim.Native.Nat.{ℕ, _+_, _-_, _≤_, _<_}
 use native.Mathlib.Numerals.{add-one}
 use native.Mathlib.Omega.{arith}
 use mathlib.Core.Path.{_≡_, refl, sym, ap, _∙_}
-use mathlib.Core.List.{List, [], _∷_, _++_}
+use mathlib.Core.List.{[], _∷_, _++_}
 use lib.ListN.{length, take, drop, set, getD, length-take, length-drop, length-append}
 use lib.Seq.{take-suc, take-all, take-at, getD-append-add, getD-drop, getD-take, length-take-le}
 use borrow.Author.Tests.{le-leb, lt-leb}
 use Rattle.key.specs.Bytes.{Bytes, part}
 use Rattle.writing.proofs.Puts.{Written, nothing, stored, same-length}
-use Rattle.lines.specs.declared.rest.Kept.{Kept}
 use Rattle.lines.specs.declared.rest.Kept.the-variants.{Bytes as Count, TooLong}
-use Rattle.lines.specs.Rest.{Within, moved, keptOf, heldOf, restOf, Keeps}
+use Rattle.lines.specs.Rest.{Within, moved, keptOf, restOf, Keeps}
 
 -- the length of a part that is there
 pub part-length : (from n : ℕ) (l : Bytes) → from + n ≤ length l → length (part from n l) ≡ n

@@ -1,9 +1,8 @@
 -- The requests of a frame, peeled off one by one: a loop whose body is one request call. Assumes nothing.
 use Prim.Native.Nat.{ℕ, zero, suc, _+_, _-_, _≤_, _<_}
-use native.Mathlib.Numerals.{add-one}
 use native.Mathlib.Decide.{ℕ-discrete}
 use native.Mathlib.Omega.{arith}
-use mathlib.Core.Path.{_≡_, refl, sym, ap, ap₂, _∙_}
+use mathlib.Core.Path.{_≡_, refl, sym, ap, _∙_}
 use mathlib.Core.Bool.{Bool, true, false, cond}
 use mathlib.Core.List.{List, [], _∷_, _++_, append-assoc, append-nil}
 use lib.Dec.{eqb, ltb}
@@ -18,13 +17,13 @@ use Rattle.server.specs.declared.Answer.{Answer}
 use Rattle.server.specs.Session.{Session, clear}
 use Rattle.server.specs.Finish.{replyBuffer}
 use Rattle.calls.specs.Serve.{State, Outcome, Stepped, requestOn, serve, serveReading, refused}
-use Rattle.calls.specs.Calls.{Lent, Called, valid, storeOf, sessionOf, request-call, answerOf, RequestPromise}
+use Rattle.calls.specs.Calls.{Lent, Called, valid, sessionOf, request-call, answerOf, RequestPromise}
 use Rattle.calls.specs.Frames.{Frame, stops, requests, closes, hex}
-use Rattle.calls.proofs.StateLaws.{Represents, SameStep, request-same}
+use Rattle.calls.proofs.StateLaws.{Represents, request-same}
 use Rattle.calls.proofs.LentLaws.{request-refused, request-served, request-leaves}
 use Rattle.lines.specs.declared.pieces.Mark.{Mark}
-use Rattle.lines.specs.declared.pieces.Mark.the-variants.{NoMark, Number, Dropped}
-use Rattle.lines.specs.Pieces.{numberText, markText, some?}
+use Rattle.lines.specs.declared.pieces.Mark.the-variants.{NoMark, Number}
+use Rattle.lines.specs.Pieces.{numberText, markText}
 use Rattle.lines.specs.Served.{listed, stateIn, behind, requestsLeft, orSome, Serving, FrameServed}
 use Rattle.lines.proofs.AnswerLaws.{hex-append}
 

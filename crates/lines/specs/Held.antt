@@ -1,7 +1,6 @@
 -- What the sessions hold between frames, in lent memory: 16 counts, and for each session 8,192 bytes, of which the first `count` are held and the
 -- others are working space for a frame.
 use Prim.Native.Nat.{ℕ, _+_, _*_, _-_, _≤_, _<_, min}
-use mathlib.Core.Bool.{Bool}
 use mathlib.Core.List.{List, _++_}
 use mathlib.Core.Option.{some}
 use mathlib.Core.Path.{_≡_}

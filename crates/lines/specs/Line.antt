@@ -1,6 +1,6 @@
 -- What the code says of an input line, in terms of `given` of the registry's definitions.
 use Prim.Native.Nat.{ℕ, _+_, _*_, _≤_}
-use mathlib.Core.List.{List, [], _∷_, _++_}
+use mathlib.Core.List.{[], _++_}
 use mathlib.Core.Option.{Option, none, some}
 use mathlib.Core.Bool.{true}
 use mathlib.Core.Path.{_≡_}

@@ -1,5 +1,5 @@
 -- The requests of a frame on lent state: what the frame's calls leave, one after another.
-use Prim.Native.Nat.{ℕ, zero, suc, _≤_}
+use Prim.Native.Nat.{ℕ, zero, suc}
 use mathlib.Core.Bool.{Bool, true, false, cond}
 use mathlib.Core.List.{List, [], _∷_, _++_}
 use mathlib.Core.Option.{Option}
@@ -7,7 +7,6 @@ use mathlib.Core.Path.{_≡_}
 use lib.Dec.{leb}
 use lib.ListN.{length}
 use Rattle.key.specs.Bytes.{Bytes}
-use Rattle.server.specs.Session.{Session}
 use Rattle.calls.specs.Serve.{State}
 use Rattle.calls.specs.Calls.{Lent, valid, storeOf, sessionOf}
 use Rattle.calls.specs.Frames.{Frame, requests, hex, Given, Console, answerGiven}

@@ -2,7 +2,6 @@
 use decimal::digits;
 use writing::Put;
 ghost use mathlib.Core.Path.{_≡_};
-ghost use mathlib.Core.List.{_++_};
 ghost use Prim.Native.Nat.{_/_, _%_, _<_};
 ghost use Rattle.writing.specs.Puts.{Puts, Adds};
 ghost use Rattle.calls.specs.Frames.{hex, hexDigit};

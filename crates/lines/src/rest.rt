@@ -1,7 +1,5 @@
 // The rest that a session keeps for its next frame: at most 4,096 bytes, at the front of what it is lent.
 ghost use mathlib.Core.Path.{_≡_};
-ghost use Prim.Native.Nat.{_≤_};
-ghost use lib.ListN.{length};
 ghost use Rattle.lines.specs.Rest.{Within, moved, Keeps};
 
 // How many bytes of the rest are kept, or that it was too long.

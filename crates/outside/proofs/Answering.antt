@@ -1,6 +1,5 @@
 -- The commands that only answer, from what the function of each reply leaves. Assumes nothing.
-use Prim.Native.Nat.{ℕ, zero, suc, _-_, _≤_, _<_}
-use native.Mathlib.Omega.{arith}
+use Prim.Native.Nat.{ℕ, _-_, _≤_}
 use mathlib.Core.Path.{_≡_, refl, sym, ap, _∙_, subst}
 use mathlib.Core.List.{List, []}
 use lib.IntN.{pos}
@@ -10,7 +9,7 @@ use Rattle.key.specs.Bytes.{Bytes}
 use Rattle.resp.specs.Reply.{Reply, Integer, BulkString, Nil, bulkOr}
 use Rattle.server.specs.declared.Answer.{Answer}
 use Rattle.server.specs.declared.errors.Fixed.{Fixed}
-use Rattle.server.specs.Names.{Args, nameWord, arguments}
+use Rattle.server.specs.Names.{Args, arguments}
 use Rattle.server.specs.Command.{argument, live, unknownCommand}
 use Rattle.server.specs.Errors.{fixedReply, arityOf}
 use Rattle.server.specs.Places.{argumentsAt}

@@ -8,7 +8,7 @@ use listing::scan;
 use server::Answer;
 use writing::Put;
 ghost use mathlib.Core.Path.{_≡_};
-ghost use Prim.Native.Nat.{_≤_, _<_, _^_};
+ghost use Prim.Native.Nat.{_≤_, _<_};
 ghost use lib.ListN.{length, replicate};
 ghost use Rattle.writing.specs.Puts.{Puts};
 ghost use Rattle.resp.specs.Reply.{encode};

@@ -2,7 +2,7 @@
 use store::merge;
 ghost use mathlib.Core.Path.{_≡_};
 ghost use Prim.Native.Nat.{_+_, _*_, _≤_};
-ghost use lib.ListN.{length, getD};
+ghost use lib.ListN.{length};
 ghost use Rattle.memtable.specs.Moves.{putAt};
 ghost use Rattle.key.specs.Bytes.{part, total, concat};
 ghost use Rattle.server.specs.Lent.{capped};

@@ -1,13 +1,13 @@
 -- The group call meets its promise: the number by its tests, what is settled without one, and what stays with one. Assumes nothing.
-use Prim.Native.Nat.{ℕ, _≤_, _<_}
+use Prim.Native.Nat.{ℕ, _<_}
 use native.Mathlib.Omega.{arith}
 use mathlib.Core.Path.{_≡_, refl, sym, _∙_, ap}
 use mathlib.Core.Bool.{Bool, true, false, cond}
 use mathlib.Core.List.{List}
 use lib.Dec.{leb}
 use lib.ListN.{length}
-use borrow.Author.Tests.{le-leb, lt-leb, leb-true}
-use Rattle.key.specs.Bytes.{Bytes, _and_, over-front}
+use borrow.Author.Tests.{leb-true}
+use Rattle.key.specs.Bytes.{Bytes, over-front}
 use Rattle.key.proofs.Bytes.{and-left, and-right}
 use Rattle.memtable.specs.Layout.{lastWord, validStore}
 use Rattle.memtable.proofs.Validity.{validated}

@@ -9,8 +9,8 @@ use mathlib.Core.List.{List, [], _∷_, _++_, map}
 use lib.Dec.{ltb, eqb}
 use lib.ListN.{length, take, drop, getD, replicate, length-take, take-append-drop, length-replicate}
 use lib.Seq.{getD-take, drop-drop}
-use borrow.Author.Tests.{lt-ltb, ltb-true}
-use Rattle.key.specs.Bytes.{Bytes, bytes, _and_, part}
+use borrow.Author.Tests.{ltb-true}
+use Rattle.key.specs.Bytes.{Bytes, bytes, part}
 use Rattle.key.proofs.Bytes.{and-left, and-right, and-both}
 use Rattle.writing.specs.declared.Put.{Put}
 use Rattle.writing.specs.Puts.{Puts}

@@ -1,9 +1,8 @@
 -- What the functions of a request call leave: of a protocol error, of a request that was read, of one session, and of session i of the sixteen.
 use Prim.Native.Nat.{ℕ, zero, suc, _<_}
 use mathlib.Core.Path.{_≡_}
-use mathlib.Core.Bool.{true, cond}
+use mathlib.Core.Bool.{true}
 use mathlib.Core.List.{List}
-use lib.Dec.{ltb}
 use lib.ListN.{length, take, replicate}
 use Rattle.key.specs.Bytes.{Bytes}
 use Rattle.resp.specs.declared.Fault.{Fault}
@@ -20,7 +19,7 @@ use Rattle.server.specs.Finish.{Served, silent, finish, Says, StoreLeft}
 use Rattle.exec.specs.Leaving.{Leaves}
 use Rattle.session.specs.Responds.{responded}
 use Rattle.calls.specs.Serve.{protocolError, serve}
-use Rattle.calls.specs.Calls.{Lent, valid}
+use Rattle.calls.specs.Calls.{valid}
 
 -- a protocol error answered, with any valid store and session
 pub record FaultLeft (input : Bytes) (f : Fault) (s : List ℕ) (out : Bytes) (r : Answer) (s′ : List ℕ) (out′ : Bytes) : Type 0 where

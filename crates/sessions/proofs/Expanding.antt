@@ -1,25 +1,24 @@
 -- Laws of the places of queued arguments. Assumes nothing.
-use mathlib.Core.Path.{_≡_, refl, sym, ap, _∙_, subst}
-use mathlib.Core.Bool.{Bool, true, false, _&&_}
+use mathlib.Core.Path.{_≡_, refl, sym, ap, _∙_}
+use mathlib.Core.Bool.{Bool, true, _&&_}
 use mathlib.Core.List.{List, [], _∷_, _++_, append-assoc}
 use Prim.Native.Nat.{ℕ, zero, suc, _+_, _-_, _*_, _<_, _≤_}
-use native.Mathlib.Nat.{zero-add, add-zero, add-suc, suc-add, add-assoc, le-antisymm}
+use native.Mathlib.Nat.{zero-add, add-zero, add-suc, add-assoc, le-antisymm}
 use native.Mathlib.Numerals.{add-one}
 use native.Mathlib.Omega.{arith}
 use borrow.Author.Tests.{leb-true}
 use lib.Dec.{leb}
 use lib.ListN.{length, getD, take, drop, set, length-append, length-set, length-drop}
-use lib.Seq.{drop-cons, drop-drop, take-suc, getD-drop, getD-append-seam, getD-append-add, take-all}
+use lib.Seq.{drop-drop, take-suc, getD-drop, getD-append-add}
 use Rattle.memtable.specs.Moves.{putAt}
 use Rattle.key.proofs.Bytes.{both-parts, length-part}
 use Rattle.server.proofs.PlaceLaws.{places-length}
 use Rattle.key.specs.Bytes.{Bytes, part, concat, total}
-use Rattle.server.specs.Names.{Args}
 use Rattle.server.specs.Session.{queueFits}
 use Rattle.server.specs.Sessions.{splitBy, queueIn}
 use Rattle.server.specs.Held.{Held}
 use Rattle.server.specs.Places.{argumentsAt, lengthsAt, PartsIn, HasRoom, placesOf, Expandable}
-use Rattle.server.proofs.Parts.{part-next, part-none, part-start, part-part, total-append}
+use Rattle.server.proofs.Parts.{part-next, part-start, part-part, total-append}
 use Rattle.sessions.proofs.Writes.{written-none, written-set}
 use Rattle.sessions.proofs.Kept.{queue-arguments}
 use Rattle.sessions.proofs.Queueing.{fits-as}

@@ -1,23 +1,23 @@
 -- A valid session read and written back is as it was; and the changes that touch its head alone. Assumes nothing.
-use mathlib.Core.Path.{_≡_, refl, sym, ap, _∙_, subst}
+use mathlib.Core.Path.{_≡_, refl, sym, ap, _∙_}
 use mathlib.Core.Bool.{Bool, true, false, cond}
 use mathlib.Core.List.{List, [], _∷_, _++_, map}
-use mathlib.Core.Option.{Option, none, some}
-use Prim.Native.Nat.{ℕ, zero, suc, _+_, _-_, _*_, _<_, _≤_}
+use mathlib.Core.Option.{none, some}
+use Prim.Native.Nat.{ℕ, zero, suc, _+_, _*_, _<_, _≤_}
 use native.Mathlib.Nat.{suc-mul, add-comm}
 use native.Mathlib.Omega.{arith}
 use borrow.Author.Tests.{leb-true, eqb-true}
 use lib.Dec.{leb, eqb}
-use lib.ListN.{length, getD, take, drop, set, length-take, length-drop, take-append-drop}
-use lib.Seq.{drop-drop, take-all, take-take, length-take-le}
+use lib.ListN.{length, getD, take, drop, set, length-drop}
+use lib.Seq.{drop-drop, take-all, take-take}
 use Rattle.key.specs.Bytes.{Bytes, _and_, part, over-front, concat, total}
 use Rattle.key.proofs.Bytes.{and-left, and-right, length-part}
 use Rattle.server.specs.Names.{Args}
-use Rattle.server.specs.Session.{Session, Watching, clear, marked}
-use Rattle.server.specs.Sessions.{splitBy, keyLengths, argumentCounts, argumentLengths, keysIn, queueIn, yes?, watchFrom, sessionFrom, ascending, allPositive, allQueueable, watchOk, queueOk, sessionOk, flagWord, multiOf, queueOf, keysHeld, snapshotOr, sessionWords, sessionBytes, wordsOfSession, bytesOfSession, sessionsOkIn, validSessions}
+use Rattle.server.specs.Session.{Session, clear, marked}
+use Rattle.server.specs.Sessions.{splitBy, keysIn, queueIn, yes?, watchFrom, sessionFrom, ascending, allQueueable, watchOk, queueOk, sessionOk, flagWord, multiOf, queueOf, keysHeld, snapshotOr, sessionWords, sessionBytes, wordsOfSession, bytesOfSession, sessionsOkIn, validSessions}
 use Rattle.server.specs.Lent.{OneSession, QueueIn, queueSizesOk}
 use Rattle.server.specs.Held.{Held, Left, cleared, opened, unwatched}
-use Rattle.server.proofs.Parts.{part-add, part-part, split-length, split-lengths, split-concat, over-own}
+use Rattle.server.proofs.Parts.{part-add, split-length, split-lengths, split-concat, over-own}
 use Rattle.sessions.proofs.SessionTests.{yes-not, sizes-in, queue-as, sessions-true, sessions-false}
 
 -- THE SHAPE of 613 words and 10,240 bytes.

@@ -1,16 +1,16 @@
 -- Laws of keys added to a table of lengths and their text. Assumes nothing.
 use mathlib.Core.Path.{_≡_, refl, sym, ap, _∙_, subst}
 use mathlib.Core.Bool.{Bool, true, false, _&&_}
-use mathlib.Core.List.{List, [], _∷_, _++_, map, append-assoc, append-nil}
+use mathlib.Core.List.{List, [], _∷_, _++_, map, append-assoc}
 use Prim.Native.Nat.{ℕ, zero, suc, _+_, _-_, _*_, _<_, _≤_}
-use native.Mathlib.Nat.{zero-add, add-zero, add-suc, suc-add, add-assoc, le-antisymm}
+use native.Mathlib.Nat.{add-zero}
 use native.Mathlib.Numerals.{add-one}
 use native.Mathlib.Omega.{arith}
-use borrow.Author.Tests.{le-leb, lt-leb, leb-true, leb-false}
+use borrow.Author.Tests.{le-leb, lt-leb, leb-false}
 use lib.Dec.{leb}
-use lib.ListN.{length, getD, take, drop, set, length-append, length-set, length-take, length-drop, take-append-drop}
-use lib.Seq.{slice, slice-cons, slice-empty, take-suc, drop-cons, set-at, getD-take, getD-drop, length-take-le, drop-drop, take-take, take-all, take-add, take-at, drop-at, drop-append-le, drop-append-add, take-append-le, take-append-add, take-nil, drop-nil}
-use lib.ListN.{List·getD-append, drop-of-length-le, length-map}
+use lib.ListN.{length, getD, take, drop, set, length-append, length-take, length-drop, take-append-drop}
+use lib.Seq.{slice, take-suc, drop-cons, getD-take, getD-drop, length-take-le, take-take, take-at, drop-at, drop-append-add, take-append-le, take-append-add, take-nil, drop-nil}
+use lib.ListN.{drop-of-length-le, length-map}
 use Rattle.memtable.proofs.Moves.{Moving, moving-all}
 use Rattle.memtable.specs.Moves.{putAt, movedUp}
 use Rattle.key.specs.declared.Order.{Order}
@@ -22,9 +22,9 @@ use Rattle.server.specs.Sessions.{splitBy}
 use Rattle.server.specs.Places.{argumentsAt, PartsIn}
 use Rattle.server.specs.Watch.{keysOf, KeysAt, insertedAt, SpotAt, Spotted, Holding, GrownTo, WatchTable}
 use Rattle.server.proofs.Parts.{split-drop, split-length, split-lengths, split-concat, over-own, total-append}
-use Rattle.sessions.proofs.Writes.{written-one, length-written}
+use Rattle.sessions.proofs.Writes.{written-one}
 use Rattle.sessions.proofs.Queueing.{map-append, concat-append, concat-length}
-use Rattle.key.proofs.Bytes.{length-over-front, over-front-again, length-part}
+use Rattle.key.proofs.Bytes.{length-over-front, over-front-again}
 use Rattle.server.specs.declared.watch.Spot.{Spot}
 use Rattle.server.specs.declared.watch.Spot.the-variants as spot
 use Rattle.server.specs.declared.watch.Grown.{Grown}

@@ -1,14 +1,14 @@
 -- Laws of writing into a list. Assumes nothing.
-use mathlib.Core.Path.{_≡_, refl, sym, ap, _∙_}
-use mathlib.Core.List.{List, [], _∷_, _++_, map, append-assoc, append-nil}
-use Prim.Native.Nat.{ℕ, zero, suc, _+_, _-_, _<_, _≤_}
-use native.Mathlib.Nat.{zero-add, add-zero, add-assoc, le-antisymm}
+use mathlib.Core.Path.{_≡_, sym, ap, _∙_}
+use mathlib.Core.List.{List, [], _∷_, _++_, append-assoc}
+use Prim.Native.Nat.{ℕ, zero, _+_, _<_, _≤_}
+use native.Mathlib.Nat.{add-zero, add-assoc}
 use native.Mathlib.Numerals.{add-one}
 use native.Mathlib.Omega.{arith}
-use lib.ListN.{length, getD, take, drop, set, length-take, length-drop, length-append, length-set, take-append-drop}
-use lib.Seq.{drop-cons, drop-drop, length-take-le, set-at, take-at, drop-at, take-append-le, drop-append-le, take-append-add, drop-append-add, set-split, paste, paste-zero, paste-suc, take-length, take-append-seam, drop-append-seam}
+use lib.ListN.{length, take, drop, set, length-take, length-drop, length-append, take-append-drop}
+use lib.Seq.{drop-drop, length-take-le, take-at, drop-at, take-append-le, drop-append-le, take-append-add, drop-append-add, set-split}
 use Rattle.memtable.specs.Moves.{putAt}
-use Rattle.key.specs.Bytes.{Bytes, part, over-front, concat, total}
+use Rattle.key.specs.Bytes.{over-front}
 
 module _ {A : Type 0} where
   pub written-none : (at : ℕ) (l : List A) → putAt at [] l ≡ l

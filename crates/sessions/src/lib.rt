@@ -9,7 +9,7 @@ ghost use lib.ListN.{length, getD};
 ghost use Rattle.key.specs.Bytes.{part, total};
 ghost use Rattle.key.specs.Keys.{keyBelow};
 ghost use Rattle.server.specs.Names.{rowOf};
-ghost use Rattle.server.specs.Sessions.{splitBy, ascending, allPositive, allQueueable, watchOk, queueOk, sessionOk, sessionsOkIn, validSessions};
+ghost use Rattle.server.specs.Sessions.{splitBy, ascending, allPositive, allQueueable, watchOk, queueOk, sessionOk, validSessions};
 ghost use Rattle.server.specs.Lent.{capped, OneSession, KeysIn, QueueIn, queueSizesOk};
 
 pub const SESSIONS: usize = 16;

@@ -1,5 +1,5 @@
 -- The readings of a table meet their definitions: a value and a live key at the place that was found. Assumes nothing.
-use Prim.Native.Nat.{ℕ, suc, _+_, _-_, _≤_, _<_}
+use Prim.Native.Nat.{ℕ, suc, _+_, _-_, _<_}
 use native.Mathlib.Omega.{arith}
 use mathlib.Core.Path.{_≡_, refl, sym, _∙_, ap}
 use mathlib.Core.Bool.{Bool, true, false, cond}
@@ -7,7 +7,7 @@ use mathlib.Core.List.{List}
 use Rattle.memtable.specs.declared.Found.{Found}
 use Rattle.memtable.specs.declared.Found.the-variants.{At, Nothing}
 use Rattle.memtable.specs.Versions.{findFrom, readAt}
-use Rattle.memtable.specs.Layout.{countWord, lastWord, startWord, keyWord, valueWord, valueStart, validStore}
+use Rattle.memtable.specs.Layout.{countWord, lastWord, startWord, keyWord, valueWord, validStore}
 use Rattle.memtable.specs.Rows.{liveFound, valueFound, versionsIn, Valid, RowIn}
 use Rattle.memtable.specs.Walk.{nextLive}
 use Rattle.memtable.proofs.Rows.{row-of, read-found}

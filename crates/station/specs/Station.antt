@@ -1,5 +1,5 @@
 -- What the calls for C and Rust return beside the published ones: a value, or a live key, as parts of the store's bytes.
-use Prim.Native.Nat.{ℕ, suc, _+_, _-_}
+use Prim.Native.Nat.{ℕ, suc, _-_}
 use mathlib.Core.Bool.{cond}
 use mathlib.Core.List.{List}
 use mathlib.Core.Option.{Option, none, some}

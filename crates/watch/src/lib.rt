@@ -7,7 +7,7 @@ ghost use mathlib.Core.Path.{_≡_};
 ghost use mathlib.Core.List.{[], _∷_};
 ghost use Prim.Native.Nat.{_+_, _-_, _≤_};
 ghost use lib.ListN.{length, take};
-ghost use Rattle.memtable.specs.Moves.{putAt, movedUp};
+ghost use Rattle.memtable.specs.Moves.{putAt};
 ghost use Rattle.key.specs.Bytes.{part, over-front};
 ghost use Rattle.server.specs.Session.{addKey, addKeys};
 ghost use Rattle.server.specs.Sessions.{keysIn};

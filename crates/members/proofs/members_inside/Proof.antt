@@ -2,7 +2,7 @@
 -- The members' borrow is opened once. Each turn copies a member out and has `inside_next` look at it.
 -- Assumes nothing.
 use mathlib.Core.Path.{_≡_, refl, sym, _∙_, ap, subst}
-use Prim.Native.Nat.{ℕ, zero, suc, _+_, _*_, _-_, _<_, _^_}
+use Prim.Native.Nat.{ℕ, zero, suc, _+_, _*_, _<_, _^_}
 use native.Mathlib.Numerals.{add-one}
 use native.Mathlib.Omega.{arith}
 use mathlib.Core.Bool.{Bool, true, false}
