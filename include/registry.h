@@ -5,8 +5,8 @@
  * every buffer gives a defined answer.
  *
  * NUMBERS. 0 is success. With any other number nothing was used, no reply and no verdict was written, and all lent memory is as it
- * was, but for the reply buffer, which is zero, and the mark of number 4. Of several that apply, the first in the order
- * 1, 9, 8, 2, 4, 5, 6, 7, 3 is returned.
+ * was, but for the reply buffer, which is zero, the mark of number 4, and the argument table, which is working memory: 1 and 9 leave it,
+ * any other number may have changed it. Of several that apply, the first in the order 1, 9, 8, 2, 4, 5, 6, 7, 3 is returned.
  *
  *   1  session above 15
  *   2  more arguments than the argument table has places

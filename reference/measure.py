@@ -24,8 +24,8 @@ from generate import array_bytes, frame_lines
 
 LINES = 100000
 ROUNDS = 5
-REQUESTS = 50000
-FEWER = {"DBSIZE": 4000, "SCAN COUNT 10": 20000, "RANGE LIMIT 10": 20000, "MGET of 10": 20000}
+REQUESTS = 400000
+FEWER = {"DBSIZE": 20000, "SCAN COUNT 10": 50000, "RANGE LIMIT 10": 50000, "MGET of 10": 50000, "MULTI, GET, GET, EXEC": 100000}
 SIZES = (16, 128, 1024)
 SETS_IN_A_ROW = 40  # fresh processes, each of which fills a store with single writes
 
@@ -221,7 +221,7 @@ def row(*cells):
 
 
 def ratio(a, b):
-    return f"{b / a:.1f}" if a > 0 else "-"
+    return f"{b / a:.2f}" if a > 0 else "-"
 
 
 def mixed_table(programs, folder, figures):

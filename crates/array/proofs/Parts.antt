@@ -10,7 +10,6 @@ use Rattle.key.specs.Bytes.{Bytes}
 use Rattle.writing.specs.declared.Put.{Put}
 use Rattle.writing.specs.declared.Put.the-variants.{Full}
 use Rattle.writing.specs.Puts.{Puts, Adds}
-use Rattle.writing.proofs.Puts.{length-kept}
 use Rattle.resp.specs.Reply.{Nil, BulkString, head, array, encode}
 use Rattle.resp.specs.Request.{spanned}
 use Rattle.resp.specs.Parts.{partReply, partReplies}
@@ -65,13 +64,7 @@ module _ {bytes : Bytes} {words : List ℕ} {i : ℕ} {put next : Put} {entry mi
   pub parts-full : {start : Bytes} → Puts (head 42 (length words / 2)) start put entry → next ≡ Full → Puts (encode (array (partReplies bytes words))) start Full mid
   parts-full p told = listed-full (partReplies bytes words) (half bytes words) p (partReplies bytes (drop (2 * i) words)) (g .listed) told
 
-  pub parts-full-length : {start : Bytes} → Puts (head 42 (length words / 2)) start put entry → next ≡ Full → length mid ≡ length start
-  parts-full-length p told = length-kept (parts-full p told)
-
   pub parts-all : {start : Bytes} → length words / 2 ≤ i → Puts (head 42 (length words / 2)) start put entry → Puts (encode (array (partReplies bytes words))) start next mid
   parts-all h p =
       let none : partReplies bytes (drop (2 * i) words) ≡ [] = no-more bytes (drop (2 * i) words) (simp length-drop (omega arith)) in
       listed-all (partReplies bytes words) (half bytes words) p (rw (← none) (g .listed))
-
-  pub parts-length : {start : Bytes} → length words / 2 ≤ i → Puts (head 42 (length words / 2)) start put entry → length mid ≡ length start
-  parts-length h p = length-kept (parts-all h p)

@@ -36,12 +36,3 @@ pub fn put_parts(out: &mut [u8], bytes: &[u8], words: &[u64]) -> Put
     }
     put
 }
-
-// Writes it behind what was put.
-pub fn then_parts(out: &mut [u8], put: Put, bytes: &[u8], words: &[u64]) -> Put
-    ensures { λ r. ⌜ Adds (encode (array (partReplies (now (bytes .entry)) (now (words .entry))))) put (now (out .entry)) r (now (out .exit)) ⌝ }
-{
-    let at = writing::place(put, out.len());
-    let next = put_parts(&mut out[at..], bytes, words);
-    writing::joined(out, put, next)
-}

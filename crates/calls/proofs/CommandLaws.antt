@@ -4,7 +4,7 @@ use native.Mathlib.Omega.{arith}
 use mathlib.Core.List.{List, [], _∷_, _++_, map}
 use mathlib.Core.Bool.{Bool, true, false, cond}
 use mathlib.Core.Option.{Option, none, some}
-use mathlib.Core.Path.{_≡_, refl, sym, ap, _∙_}
+use mathlib.Core.Path.{_≡_, refl, sym, ap, _∙_, fun-ext}
 use lib.IntN.{pos}
 use Rattle.key.specs.Keys.{Key}
 use Rattle.key.proofs.Bytes.{or-cases}
@@ -15,7 +15,7 @@ use Rattle.batch.specs.Group.{among}
 use Rattle.batch.proofs.KeyLists.{among-append, among-left, among-right, AllAmong, all-more, all-self, all-split, all-split-keys, among-last}
 use Rattle.server.specs.Command.{Command, GET, SET, DEL, EXISTS, MGET, MSET, COUNT, FIXED, liveOne, live, held, raised, tombstone, run, checks, runQueue}
 use Rattle.server.proofs.CommandLaws.{Agree, run-writes}
-use Rattle.calls.specs.Posting.{postQueue, checksOf, covered, liveCovered, uncovered, ItemsAsPosted, AsPosted, AllAsPosted}
+use Rattle.calls.specs.Posting.{postQueue, postReplies, checksOf, covered, liveCovered, uncovered, ItemsAsPosted, AsPosted, AllAsPosted}
 
 -- an EXEC's writes and checks are among the keys that it covers
 pub all-written : (watched : List Key) (ws : List Write) (q : List Command) → AllAmong (covered watched ws q) (keysOf ws)
@@ -108,6 +108,15 @@ module _ (cov : List Key) where
         rw (← (run-writes cov r (find t) x h (parts .0)))
             (queue-as-posted cs (over ws r) (writeAll ws t) (ascending-writeAll ws t s) (agree-after r ws t s h) (wparts .1) (parts .1)),
       )
+
+-- what reads the table replies as posting does
+pub queue-replies : (cs : List Command) (r : Reader) (t : Table) → Ascending t → r ≡ find t → runQueue r cs .replies ≡ postReplies t cs
+unfolding runQueue postReplies
+queue-replies [] r t s e = refl
+queue-replies (c ∷ cs) r t s e =
+    let ws = run (find t) c .1 in
+    (λ z. run (e z) c .0 ∷ runQueue (over (run (e z) c .1) (e z)) cs .replies)
+    ∙ ap {B = List Reply} (λ l. run (find t) c .0 ∷ l) (queue-replies cs (over ws (find t)) (writeAll ws t) (ascending-writeAll ws t s) (fun-ext (λ k. sym (find-writeAll ws t s k))))
 
 -- what an EXEC checks besides
 pub queue-checks : (cs : List Command) (r : Reader) → runQueue r cs .checked ≡ checksOf cs

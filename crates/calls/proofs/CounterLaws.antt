@@ -24,7 +24,8 @@ use Rattle.memtable.proofs.TableLaws.{Ascending, find-writeAll, ascending-write
 use Rattle.batch.specs.Group.{anyKey, among}
 use Rattle.server.specs.Command.{Command, GET, SET, DEL, EXISTS, MGET, MSET, COUNT, FIXED, tombstone, put, held, summed, raised, run}
 use Rattle.calls.specs.Posting.{Item, alone, listed, exec, member, postQueue, post, postAll, covered, AsPosted, AllAsPosted, AllHold}
-use Rattle.calls.specs.Demand3.{itemsOf, isInteger, orZero, increment, sumQueue, sum, setKeys, NotSet, OnlyCounted, textOf, CounterClaim, increments, SumOf, CounterReplies}
+use Rattle.calls.specs.Verdicts.{setKeys}
+use Rattle.calls.specs.Demand3.{itemsOf, isInteger, orZero, increment, sumQueue, sum, NotSet, OnlyCounted, textOf, CounterClaim, increments, SumOf, CounterReplies}
 use Rattle.calls.proofs.Posting.{claim}
 
 -- writes to other keys leave a key as it is
@@ -37,7 +38,7 @@ over-other (w ∷ ws) r k e = go (sameKey (w .0) k) refl e (λ h. over-other ws 
     go true p h ih = let z : _≡_ {A = ℕ} 0 1 = cc in absurd (omega arith)
     go false p h ih = ih h ∙ ap (λ (b : Bool). cond b (w .1) (r k)) p
 
-put-keys : (es : List (Entry Value)) → keysOf (map put es) ≡ map (λ (e : Entry Value). e .0) es
+pub put-keys : (es : List (Entry Value)) → keysOf (map put es) ≡ map (λ (e : Entry Value). e .0) es
 put-keys [] = refl
 put-keys (e ∷ es) = ap {B = List Key} (λ l. e .0 ∷ l) (put-keys es)
 

@@ -1,11 +1,12 @@
 -- Demand 3 whole is proved of the published calls' definitions.
 use Rattle.calls.specs.Demand3.{Demand3Holds}
 use Rattle.calls.proofs.CounterLaws.{counters, counter-replies}
-use Rattle.calls.proofs.IsolationClaim.{quiet-leaves, isolation, always-valid}
+use Rattle.calls.proofs.IsolationClaim.{quiet-leaves, isolation, isolation-until-exec, always-valid}
 use Rattle.calls.proofs.IsolationLaws.{isolated}
 use Rattle.calls.proofs.Posting.{claim, stays-valid}
 use Rattle.calls.proofs.QuietLaws.{fed, quiet}
 use Rattle.calls.proofs.WatchLaws.{no-exec-after-move, no-exec-after-write}
+use Rattle.calls.proofs.VerdictLaws.{verdicts-caused}
 
 pub demand-3 : Demand3Holds
 demand-3 = record {
@@ -15,10 +16,12 @@ demand-3 = record {
   counterReplies = counter-replies;
   watches = no-exec-after-move;
   postedWatches = no-exec-after-write;
+  verdicts = verdicts-caused;
   quiet = quiet;
   quietCalls = quiet-leaves;
   isolated = isolated;
   isolation = isolation;
+  untilExec = isolation-until-exec;
   staysValid = stays-valid;
   validity = always-valid;
 }

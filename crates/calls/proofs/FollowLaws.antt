@@ -1,5 +1,5 @@
 -- Each request of a session is followed by posting: the table, what posting keeps of the session, and the reply's bytes.
-use Prim.Native.Nat.{ℕ, _+_}
+use Prim.Native.Nat.{ℕ, _<_}
 use native.Mathlib.Omega.{arith}
 use mathlib.Core.List.{List, [], _∷_, _++_, map}
 use mathlib.Core.Bool.{Bool, true, false, cond, _||_, false≢true}
@@ -7,32 +7,39 @@ use mathlib.Core.Option.{Option, none, some}
 use mathlib.Core.Path.{_≡_, refl, sym, ap, _∙_, fun-ext, subst}
 use lib.ListN.{length}
 use Rattle.key.specs.Bytes.{Bytes}
-use Rattle.key.specs.Keys.{Key}
+use Rattle.key.specs.Keys.{Key, sameKey}
+use Rattle.key.proofs.Keys.{same-refl}
 use Rattle.resp.specs.Reply.{Error, NilArray, array, ok, encode}
 use Rattle.memtable.specs.Table.{Write, Table, keysOf, find, lastWrites}
-use Rattle.memtable.specs.Versions.{Store, readAt, moved, table, commit}
+use Rattle.memtable.specs.Versions.{Store, readAt, newest, moved, table, commit}
 use Rattle.memtable.proofs.TableLaws.{writeAll-lastWrites}
 use Rattle.memtable.proofs.VersionLaws.{ascending-table, read-last, read-unmoved, table-commit, Sound}
 use Rattle.batch.specs.declared.Verdict.{Verdict}
 use Rattle.batch.specs.declared.Verdict.the-variants.{Accepted, Conflict, NoRoom, NoSequence, NotTaken}
 use Rattle.batch.specs.Group.{plain, anyKey, among, verdictAlone}
-use Rattle.batch.proofs.KeyLists.{among-append, among-last}
+use Rattle.batch.proofs.KeyLists.{among-append, any-last-all, among-last}
 use Rattle.server.specs.Names.{Args, Row, rowOf, nameWord, arguments, countRight, arity, Control, MULTI, EXEC, DISCARD, WATCH, UNWATCH, QUIT, other, controlOf}
 use Rattle.server.specs.Command.{Command, Listing, Executed, runs, lists, Effect, executedOf, commandOf, run, runQueue}
 use Rattle.server.specs.Session.{Watching, Session, clear, Result, number, reply, Done, says, returns, committed, direct, addKeys, watchOr, watchFits, watching, outsideMulti, queueFits, queuedReply, marked, enqueue, notQueueable, execAbort, readSequence, watchedKeys, pendingExec, execute, insideMulti, respondBy, respond}
 use Rattle.server.proofs.CommandLaws.{Agree}
 use Rattle.server.proofs.WatchLaws.{among-adds}
-use Rattle.server.proofs.SessionLaws.{ranBy, memberBy, exec-calm, ends, execute-failed, execute-ends}
-use Rattle.calls.specs.Posting.{isReply, Item, listed, exec, Desk, closed, Turn, quietly, onlyIf, turnExec, turnBy, postQueue, post, postAll, covered, AllHold, checksOf}
-use Rattle.calls.specs.Demand3.{itemKeys, writtenIn}
-use Rattle.calls.proofs.MovedLaws.{commit-moves, no-keys, one-item}
+use Rattle.server.proofs.SessionLaws.{WatchHolds, SessionSound, ranBy, memberBy, exec-calm, ends, execute-failed, execute-ends}
+use Rattle.calls.specs.Posting.{isReply, Item, listed, exec, Client, closed, Turn, quietly, onlyIf, turnExec, turnBy, postQueue, post, postAll, covered, AllHold, checksOf}
+use Rattle.calls.specs.Verdicts.{itemKeys, writtenIn}
+use Rattle.calls.proofs.MovedLaws.{commit-moves, commit-keeps, no-keys, one-item, unwritten}
 use Rattle.calls.proofs.ReplyLaws.{ok-told, queued-told, error-not-ok, error-not-queued, abort-told, nil-array-told, nil-array-no-array, error-no-array, array-told}
-use Rattle.calls.proofs.CommandLaws.{all-written, all-checked, covered-held, queue-writes, queue-as-posted, queue-checks}
+use Rattle.calls.proofs.CommandLaws.{all-written, all-checked, covered-held, queue-writes, queue-as-posted, queue-replies, queue-checks}
 
 -- what posting keeps of a session: its queue, and the same watched keys, though in another order
-pub record Mirrors (d : Desk) (s : Session) : Type 0 where
+pub record Mirrors (d : Client) (s : Session) : Type 0 where
   pub queue : d .queue ≡ s .queue
   pub watched : (k : Key) → among (d .watched) k ≡ among (watchedKeys (s .watch)) k
+
+-- some key is among keys of which there are some
+pub some-among : {A : Type 0} (ks : List Key) → 0 < length ks → ((k : Key) → among [] k ≡ among ks k) → A
+unfolding anyKey
+some-among [] n h = absurd (omega arith)
+some-among (k ∷ ks) n h = absurd (false≢true (h k ∙ rw (same-refl k)))
 
 pub closed-clear : Mirrors closed clear
 closed-clear = record { queue = refl; watched = λ k. refl }
@@ -40,35 +47,36 @@ closed-clear = record { queue = refl; watched = λ k. refl }
 -- posting follows: what it makes of the answer changes the table as the request does, mirrors the session, and holds
 pub record Follows (before after : Store) (s : Session) (t : Turn) : Type 0 where
   pub tables : postAll (t .items) (table (before .versions)) ≡ table (after .versions)
-  pub desk : Mirrors (t .desk) s
+  pub client : Mirrors (t .client) s
   pub holds : AllHold (t .items) (table (before .versions))
   pub quiet : t .items ≡ [] → after ≡ before
   pub moves : (k : Key) → among (writtenIn (t .items) (table (before .versions))) k ≡ true → moved (before .last) (after .versions) k ≡ true
+  pub keeps : (k : Key) → among (writtenIn (t .items) (table (before .versions))) k ≡ false → newest (after .versions) k ≡ newest (before .versions) k
 
 -- an item is something
 pub some-item : {x : Item} {xs : List Item} {A : Type 0} → x ∷ xs ≡ [] → A
 some-item e = let z : _≡_ {A = ℕ} 0 1 = cc in absurd (omega arith)
 
 -- a request that commits nothing and posts nothing
-pub still : (st : Store) (s : Session) (d : Desk) → Mirrors d s → Follows st st s (quietly d)
+pub still : (st : Store) (s : Session) (d : Client) → Mirrors d s → Follows st st s (quietly d)
 unfolding postAll
-still st s d m = record { tables = refl; desk = m; holds = tt; quiet = λ e. refl; moves = λ k h. no-keys _ k h }
+still st s d m = record { tables = refl; client = m; holds = tt; quiet = λ e. refl; moves = λ k h. no-keys _ k h; keeps = λ k h. refl }
 
 -- reading the last sequence is reading the table
-read-now : (st : Store) → Sound st → readAt (st .last) (st .versions) ≡ find (table (st .versions))
+pub read-now : (st : Store) → Sound st → readAt (st .last) (st .versions) ≡ find (table (st .versions))
 read-now st b = fun-ext (read-last (st .last) (st .versions) (b .seqs))
 
 -- by what a session answers; a number is not posted
-abbrev pub FollowedBy : Store → Desk → Control → Option (List Args) → Args → Done → Result → Type 0
+abbrev pub FollowedBy : Store → Client → Control → Option (List Args) → Args → Done → Result → Type 0
 FollowedBy st d c q a done (number n) = Unit {0}
 FollowedBy st d c q a done (reply r) = Follows st (done .store) (done .session) (turnBy c q a (encode r) d)
 
-module _ (st : Store) (s : Session) (d : Desk) (sound : Sound st) (m : Mirrors d s) where
-  -- where the answer is no `+OK`, the desk stays
-  not-ok : (text : Bytes) (s′ : Session) (new : Desk) → Mirrors d s′ → Follows st st s′ (onlyIf (isReply ok (encode (Error text))) d new)
+module _ (st : Store) (s : Session) (d : Client) (sound : Sound st) (good : SessionSound (st .last) s) (m : Mirrors d s) where
+  -- where the answer is no `+OK`, the client stays
+  not-ok : (text : Bytes) (s′ : Session) (new : Client) → Mirrors d s′ → Follows st st s′ (onlyIf (isReply ok (encode (Error text))) d new)
   not-ok text s′ new g = rw (error-not-ok text) (still st s′ d g)
 
-  is-ok : (s′ : Session) (new : Desk) → Mirrors new s′ → Follows st st s′ (onlyIf (isReply ok (encode ok)) d new)
+  is-ok : (s′ : Session) (new : Client) → Mirrors new s′ → Follows st st s′ (onlyIf (isReply ok (encode ok)) d new)
   is-ok s′ new g = rw ok-told (still st s′ new g)
 
   -- OUTSIDE MULTI
@@ -79,7 +87,7 @@ module _ (st : Store) (s : Session) (d : Desk) (sound : Sound st) (m : Mirrors d
   direct-follows : (a : Args) (x : Executed) → executedOf a ≡ x → FollowedBy st d other none a (direct x st s) (direct x st s .result)
   unfolding direct turnBy
   direct-follows a (lists l) p =
-      rw p (record { tables = unfold postAll post in refl; desk = m; holds = unfold post in (refl, tt); quiet = λ z. some-item z; moves = λ k h. one-item _ _ k h (λ e. no-list l _ k e) })
+      rw p (record { tables = unfold postAll post in refl; client = m; holds = unfold post in (refl, tt); quiet = λ z. some-item z; moves = λ k h. one-item _ _ k h (λ e. no-list l _ k e); keeps = λ k h. refl })
   direct-follows a (runs c) p = rw (read-now st sound) (go (verdictAlone st (plain (e .1))))
     where
       e : Effect
@@ -87,7 +95,7 @@ module _ (st : Store) (s : Session) (d : Desk) (sound : Sound st) (m : Mirrors d
 
       go : (v : Verdict) → FollowedBy st d other none a (committed v e st s) (committed v e st s .result)
       go Accepted =
-          unfold committed in rw p (record { tables = unfold postAll post in sym (table-commit (e .1) st (sound .seqs)); desk = m; holds = (refl, tt); quiet = λ z. some-item z; moves = λ k h. one-item _ _ k h (λ x. unfold itemKeys in commit-moves (e .1) st k x) })
+          unfold committed in rw p (record { tables = unfold postAll post in sym (table-commit (e .1) st (sound .seqs)); client = m; holds = (refl, tt); quiet = λ z. some-item z; moves = λ k h. one-item _ _ k h (λ x. unfold itemKeys in commit-moves (e .1) st k x); keeps = λ k h. unfold itemKeys in commit-keeps (e .1) st k (unwritten _ [] _ k h .0) })
       go Conflict = unfold committed in tt
       go NoRoom = unfold committed in tt
       go NoSequence = unfold committed in tt
@@ -147,6 +155,18 @@ module _ (st : Store) (s : Session) (d : Desk) (sound : Sound st) (m : Mirrors d
   unfolding itemKeys
   queue-key watched b k ws t cs e h = rw e h
 
+  queue-other : (watched : List Key) (b : Bytes) (k : Key) (ws : List Write) (t : Table) (cs : List Command) → ws ≡ postQueue t cs → among (itemKeys (exec watched cs b) t) k ≡ false → among (keysOf ws) k ≡ false
+  unfolding itemKeys
+  queue-other watched b k ws t cs e h = rw e h
+
+  -- an EXEC that watches nothing reads the table
+  unwatched : d .watched ≡ [] → readAt (readSequence st (s .watch)) (st .versions) ≡ find (table (st .versions))
+  unwatched e = go (s .watch) (good .watch) (λ k. ap (λ (ks : List Key). among ks k) (sym e) ∙ m .watched k)
+    where
+      go : (w : Option Watching) → WatchHolds (st .last) w → ((k : Key) → among [] k ≡ among (watchedKeys w) k) → readAt (readSequence st w) (st .versions) ≡ find (table (st .versions))
+      go none h same = read-now st sound
+      go (some w) h same = some-among (w .keys) (h .some-key) same
+
   exec-follows : (q : List Args) → verdictAlone st (memberBy q st s) ≡ Accepted
       → Follows st (commit (memberBy q st s .writes) st) clear (turnExec q (encode (array (ranBy q st s .replies))) d)
   unfolding turnExec ranBy memberBy pendingExec postAll post
@@ -167,10 +187,11 @@ module _ (st : Store) (s : Session) (d : Desk) (sound : Sound st) (m : Mirrors d
       let same : ws ≡ postQueue t cs = queue-writes cov cs r t up h checked in
       rw (array-told (runQueue r cs .replies)) (record {
         tables = rw (← same) (sym (writeAll-lastWrites ws t up)) ∙ sym (table-commit (lastWrites [] ws) st (sound .seqs));
-        desk = closed-clear;
-        holds = ((runQueue r cs .replies, refl, rw (← same) (queue-as-posted cov cs r t up h (all-written (d .watched) ws cs) checked)), tt);
+        client = closed-clear;
+        holds = ((runQueue r cs .replies, refl, rw (← same) (queue-as-posted cov cs r t up h (all-written (d .watched) ws cs) checked), λ e. queue-replies cs r t up (unwatched e)), tt);
         quiet = λ z. some-item z;
         moves = λ k h. one-item _ t k h (λ x. commit-moves (lastWrites [] ws) st k (among-last ws [] k (rw (queue-key _ _ k ws t cs same x))));
+        keeps = λ k h. commit-keeps (lastWrites [] ws) st k (any-last-all (λ j. sameKey j k) ws ∙ queue-other _ _ k ws t cs same (unwritten _ [] t k h .0));
       })
 
   execute-follows : (q : List Args) (a : Args) → FollowedBy st d EXEC (some q) a (execute q st s) (execute q st s .result)

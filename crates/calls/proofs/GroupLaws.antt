@@ -2,27 +2,28 @@
 use Prim.Native.Nat.{ℕ, zero, suc, _+_, _-_}
 use native.Mathlib.Omega.{arith}
 use mathlib.Core.List.{List, [], _∷_, _++_, map}
-use mathlib.Core.Bool.{true, cond}
+use mathlib.Core.Bool.{true, false, cond}
 use mathlib.Core.Path.{_≡_, refl, sym, ap, _∙_}
 use lib.Dec.{eqb}
 use lib.ListN.{length, take, drop, replicate, take-append-drop}
 use Rattle.key.specs.Keys.{Key}
-use Rattle.memtable.specs.Versions.{Store, moved, table, commit}
+use Rattle.memtable.specs.Versions.{Store, newest, moved, table, commit}
 use Rattle.memtable.proofs.VersionLaws.{Sound, table-commit, Later, later-refl, later-commit}
 use Rattle.batch.specs.declared.Verdict.{Verdict}
 use Rattle.batch.specs.declared.Verdict.the-variants.{Accepted, Conflict, NoRoom, NoSequence, NotTaken}
 use Rattle.batch.specs.Group.{Pending, among, verdictByte, judge, writtenAfter, storeAfter, judgeAll, memberSize, taken, group}
 use Rattle.batch.proofs.GroupLaws.{after-member, after-all, verdicts-long}
 use Rattle.calls.specs.Posting.{Item, member, acceptedIn, post, postAll, AllHold}
-use Rattle.calls.specs.Demand3.{itemKeys, writtenIn}
+use Rattle.calls.specs.Verdicts.{itemKeys, writtenIn}
 use Rattle.calls.proofs.FollowLaws.{some-item}
-use Rattle.calls.proofs.MovedLaws.{commit-moves, moved-later, no-keys, first-keys}
+use Rattle.calls.proofs.MovedLaws.{commit-moves, commit-keeps, moved-later, no-keys, first-keys, unwritten}
 
 pub record GroupFollows (ms : List Pending) (vs : List Verdict) (before after : Store) : Type 0 where
   pub tables : postAll (acceptedIn ms (map verdictByte vs)) (table (before .versions)) ≡ table (after .versions)
   pub holds : AllHold (acceptedIn ms (map verdictByte vs)) (table (before .versions))
   pub quiet : acceptedIn ms (map verdictByte vs) ≡ [] → after ≡ before
   pub moves : (k : Key) → among (writtenIn (acceptedIn ms (map verdictByte vs)) (table (before .versions))) k ≡ true → moved (before .last) (after .versions) k ≡ true
+  pub keeps : (k : Key) → among (writtenIn (acceptedIn ms (map verdictByte vs)) (table (before .versions))) k ≡ false → newest (after .versions) k ≡ newest (before .versions) k
 
 -- one member in front of the rest: accepted or not, its place in the store is its place in the history
 member-follows : (v : Verdict) (m : Pending) (ms : List Pending) (vs : List Verdict) (st after : Store) → Sound st → Later (storeAfter v (m .writes) st) after
@@ -37,15 +38,16 @@ member-follows Accepted m ms vs st after s l f =
       moves = λ k h. first-keys _ _ _ k h
           (λ x. moved-later (st .last) (st .last) (commit (m .writes) st) after k (omega arith) l (commit-moves (m .writes) st k x))
           (λ x. moved-later (st .last) (commit (m .writes) st .last) after after k (later-commit (m .writes) st .lasts) (later-refl after) (f .moves k (rw e x)));
+      keeps = λ k h. let n = unwritten _ _ _ k h in f .keeps k (rw e (n .1)) ∙ commit-keeps (m .writes) st k (n .0);
     }
-member-follows Conflict m ms vs st after s l f = record { tables = f .tables; holds = f .holds; quiet = f .quiet; moves = f .moves }
-member-follows NoRoom m ms vs st after s l f = record { tables = f .tables; holds = f .holds; quiet = f .quiet; moves = f .moves }
-member-follows NoSequence m ms vs st after s l f = record { tables = f .tables; holds = f .holds; quiet = f .quiet; moves = f .moves }
-member-follows NotTaken m ms vs st after s l f = record { tables = f .tables; holds = f .holds; quiet = f .quiet; moves = f .moves }
+member-follows Conflict m ms vs st after s l f = record { tables = f .tables; holds = f .holds; quiet = f .quiet; moves = f .moves; keeps = f .keeps }
+member-follows NoRoom m ms vs st after s l f = record { tables = f .tables; holds = f .holds; quiet = f .quiet; moves = f .moves; keeps = f .keeps }
+member-follows NoSequence m ms vs st after s l f = record { tables = f .tables; holds = f .holds; quiet = f .quiet; moves = f .moves; keeps = f .keeps }
+member-follows NotTaken m ms vs st after s l f = record { tables = f .tables; holds = f .holds; quiet = f .quiet; moves = f .moves; keeps = f .keeps }
 
 judged-follows : (written : List Key) (ms : List Pending) (st : Store) → Sound st → GroupFollows ms (judgeAll written ms st .verdicts) st (judgeAll written ms st .store)
 unfolding judgeAll acceptedIn postAll
-judged-follows written [] st s = record { tables = refl; holds = tt; quiet = λ z. refl; moves = λ k h. no-keys _ k h }
+judged-follows written [] st s = record { tables = refl; holds = tt; quiet = λ z. refl; moves = λ k h. no-keys _ k h; keeps = λ k h. refl }
 judged-follows written (m ∷ ms) st s =
     let v = judge written st m in
     let next = storeAfter v (m .writes) st in
@@ -78,4 +80,4 @@ group-follows ms st s =
     let e : acceptedIn ms (map verdictByte (g .verdicts ++ replicate k NotTaken)) ≡ acceptedIn (take n ms) (map verdictByte (g .verdicts)) =
     ap (λ (x : List Pending). acceptedIn x (map verdictByte (g .verdicts ++ replicate k NotTaken))) (sym (take-append-drop n ms))
     ∙ taken-only (take n ms) (drop n ms) (g .verdicts) k (verdicts-long [] (take n ms) st) in
-    record { tables = ap (λ (x : List Item). postAll x (table (st .versions))) e ∙ f .tables; holds = rw e (f .holds); quiet = λ z. f .quiet (sym e ∙ z); moves = λ k h. f .moves k (rw e at h) }
+    record { tables = ap (λ (x : List Item). postAll x (table (st .versions))) e ∙ f .tables; holds = rw e (f .holds); quiet = λ z. f .quiet (sym e ∙ z); moves = λ k h. f .moves k (rw e at h); keeps = λ k h. f .keeps k (rw e at h) }

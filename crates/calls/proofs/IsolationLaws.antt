@@ -1,14 +1,27 @@
 -- What one session has queued or watched alters no answer to another.
 use Prim.Native.Nat.{ℕ, _<_}
-use mathlib.Core.Bool.{Bool, true, false}
+use mathlib.Core.Bool.{Bool, true, false, cond, false≢true}
+use mathlib.Core.List.{List, [], _∷_, map}
+use mathlib.Core.Option.{Option, none}
 use mathlib.Core.Path.{_≡_, refl, sym, ap, _∙_}
-use lib.Dec.{ltb}
+use lib.Dec.{leb, ltb}
+use lib.ListN.{length}
 use borrow.Author.Tests.{ltb-true}
 use Rattle.key.specs.Bytes.{Bytes}
-use Rattle.server.specs.Finish.{Served}
-use Rattle.calls.specs.Serve.{serve, answered}
+use Rattle.resp.specs.Request.{Reading, waits, faulty, tooMany, whole, readRequest, spanned}
+use Rattle.resp.specs.Reply.{Reply, encode}
+use Rattle.memtable.specs.Versions.{Store, readAt}
+use Rattle.batch.specs.declared.Verdict.{Verdict}
+use Rattle.batch.specs.declared.Verdict.the-variants.{Accepted, Conflict, NoRoom, NoSequence, NotTaken}
+use Rattle.batch.specs.Group.{plain, verdictAlone}
+use Rattle.server.specs.Names.{Args, rowOf, nameWord, Control, MULTI, EXEC, DISCARD, WATCH, UNWATCH, QUIT, other, controlOf}
+use Rattle.server.specs.Command.{Executed, runs, lists, Effect, executedOf, run}
+use Rattle.server.specs.Session.{Session, Result, number, reply, Done, committed, direct, outsideMulti, respondBy, respond}
+use Rattle.server.specs.Finish.{Served, silent, fitted, finishBy, finish}
+use Rattle.calls.specs.Serve.{serveReading, serve, answered}
 use Rattle.calls.specs.Calls.{Lent, valid, sessionOf, Called, leaveServed, request-call}
-use Rattle.calls.specs.Demand3.{SameFor, Isolated}
+use Rattle.calls.specs.Posting.{askedBy}
+use Rattle.calls.specs.Demand3.{SameFor, Isolated, isCommand, asksCommand}
 use Rattle.calls.proofs.LentLaws.{servedBy, request-served, request-refused, request-leaves}
 
 module _ (i : ℕ) (s : Bytes) (places room : ℕ) where
@@ -61,3 +74,72 @@ isolated = record {
   leaves = λ i s places room l m p q h. same-left i s places room l m p q h;
   others = λ i j s places room l p k n. others-left i s places room j l p k n;
 }
+
+-- A COMMAND OUTSIDE MULTI is served by the store alone, and leaves its session.
+abbrev doneFor : Session → Done → Done
+doneFor s d = record { result = d .result; store = d .store; session = s }
+
+abbrev pub servedFor : Session → Served → Served
+servedFor s v = record { number = v .number; used = v .used; reply = v .reply; store = v .store; session = s }
+
+is-command : (c : Control) → isCommand c ≡ true → c ≡ other
+is-command MULTI e = absurd (false≢true e)
+is-command EXEC e = absurd (false≢true e)
+is-command DISCARD e = absurd (false≢true e)
+is-command WATCH e = absurd (false≢true e)
+is-command UNWATCH e = absurd (false≢true e)
+is-command QUIT e = absurd (false≢true e)
+is-command other e = refl
+
+command-direct : (a : Args) (st : Store) (s : Session) → isCommand (controlOf (rowOf (nameWord a) .name)) ≡ true → s .queue ≡ none → respond a st s ≡ direct (executedOf a) st s
+unfolding respond
+command-direct a st s e n =
+    let r = rowOf (nameWord a) in
+    let outside : respondBy none r a st s ≡ outsideMulti (controlOf (r .name)) r a st s = unfold respondBy in refl in
+    let directly : outsideMulti other r a st s ≡ direct (executedOf a) st s = unfold outsideMulti in refl in
+    ap (λ (q : Option (List Args)). respondBy q r a st s) n ∙ outside ∙ ap (λ (c : Control). outsideMulti c r a st s) (is-command (controlOf (r .name)) e) ∙ directly
+
+module _ (st : Store) (s t : Session) where
+  direct-alike : (x : Executed) → direct x st s ≡ doneFor s (direct x st t)
+  unfolding direct committed
+  direct-alike (lists l) = refl
+  direct-alike (runs c) = let e = run (readAt (st .last) (st .versions)) c in go e (verdictAlone st (plain (e .1)))
+    where
+      go : (e : Effect) (v : Verdict) → committed v e st s ≡ doneFor s (committed v e st t)
+      go e Accepted = refl
+      go e Conflict = refl
+      go e NoRoom = refl
+      go e NoSequence = refl
+      go e NotTaken = refl
+
+  finish-alike : (room used : ℕ) (d : Done) → finish room used (doneFor s d) st s ≡ servedFor s (finish room used d st t)
+  unfolding finish
+  finish-alike room used d = go (d .result)
+    where
+      fits : (r : Reply) (b : Bool)
+          → cond {A = Served} b (record { number = 0; used = used; reply = encode r; store = d .store; session = s }) (silent 3 0 st s)
+          ≡ servedFor s (cond b (record { number = 0; used = used; reply = encode r; store = d .store; session = d .session }) (silent 3 0 st t))
+      fits r true = refl
+      fits r false = refl
+
+      go : (r : Result) → finishBy r room used (doneFor s d) st s ≡ servedFor s (finishBy r room used d st t)
+      go (number n) = unfold finishBy in refl
+      go (reply r) = unfold finishBy fitted in fits r (leb (length (encode r)) room)
+
+  reading-alike : (room : ℕ) (input : Bytes) (x : Reading) → asksCommand (askedBy input x) ≡ true → s .queue ≡ none → t .queue ≡ none
+      → serveReading room input x st s ≡ servedFor s (serveReading room input x st t)
+  unfolding serveReading askedBy
+  reading-alike room input waits e n m = absurd (false≢true e)
+  reading-alike room input tooMany e n m = absurd (false≢true e)
+  reading-alike room input (faulty f) e n m = absurd (false≢true e)
+  reading-alike room input (whole [] used) e n m = absurd (false≢true e)
+  reading-alike room input (whole (p ∷ ps) used) e n m =
+      let a = map (spanned input) (p ∷ ps) in
+      let alike : respond a st s ≡ doneFor s (respond a st t) =
+      command-direct a st s e n ∙ direct-alike (executedOf a) ∙ ap (doneFor s) (sym (command-direct a st t e m)) in
+      ap (λ (d : Done). finish room used d st s) alike ∙ finish-alike room used (respond a st t)
+
+  pub serve-alike : (places room : ℕ) (input : Bytes) → asksCommand (askedBy input (readRequest places input)) ≡ true → s .queue ≡ none → t .queue ≡ none
+      → serve places room input st s ≡ servedFor s (serve places room input st t)
+  unfolding serve
+  serve-alike places room input = reading-alike room input (readRequest places input)

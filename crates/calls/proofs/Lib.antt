@@ -9,6 +9,7 @@ pub mod IsolationClaim
 pub mod IsolationLaws
 pub mod LentLaws
 pub mod MadeLaws
+pub mod MarkLaws
 pub mod MovedLaws
 pub mod OpenLaws
 pub mod Posting
@@ -18,4 +19,5 @@ pub mod ReplyLaws
 pub mod ServeLaws
 pub mod StateClaim
 pub mod StateLaws
+pub mod VerdictLaws
 pub mod WatchLaws

@@ -1,11 +1,11 @@
 -- Demand 3 is proved of the calls made through the published functions: what their contracts tell is what the definitions give. Assumes nothing.
-use Prim.Native.Nat.{ℕ, suc, _-_, min}
+use Prim.Native.Nat.{ℕ, _-_, min}
 use native.Mathlib.Omega.{arith}
 use mathlib.Core.Path.{_≡_, refl, sym, ap, _∙_}
 use mathlib.Core.Bool.{Bool, true, false, cond}
 use mathlib.Core.List.{List, [], _∷_, map}
 use lib.Dec.{ltb}
-use lib.ListN.{length, take, drop, replicate, length-append, length-take, length-replicate}
+use lib.ListN.{length, take, drop, replicate, length-append, length-map, length-take, length-replicate}
 use lib.Seq.{take-at}
 use Rattle.key.specs.Bytes.{Bytes, over-front}
 use Rattle.memtable.specs.Versions.{Store}
@@ -18,10 +18,10 @@ use Rattle.batch.proofs.GroupLaws.{verdicts-long}
 use Rattle.server.specs.declared.Answer.{Answer}
 use Rattle.server.specs.Finish.{Served, replyBuffer}
 use Rattle.calls.specs.Serve.{Outcome, refused, answered, serve}
-use Rattle.calls.specs.Calls.{Lent, lentOf, valid, storeOf, sessionOf, leaveServed, refuses, Called, StoreCalled, withStore, refusesStore, givesStore, judged, open-call, request-call, group-call, verdictBuffer, RequestPromise, GroupPromise, Call, request, call, outcomes, final}
-use Rattle.calls.specs.Demand3.{Opened, without, toOthers, SameBut, Unaltered, PostsNothing, desksAfter}
-use Rattle.calls.specs.Posting.{closedDesks}
-use Rattle.calls.specs.Made.{requestSeen, groupSeen, Made, unmade, byRequest, byGroup, Holds, MadeClaim, OpensClaim, MadeIsolation, MadeHolds}
+use Rattle.calls.specs.Calls.{Lent, lentOf, valid, storeOf, sessionOf, leaveServed, refuses, Called, StoreCalled, withStore, refusesStore, givesStore, judged, open-call, request-call, group-call, verdictBuffer, RequestPromise, GroupPromise, Call, call, outcomes, final}
+use Rattle.calls.specs.Demand3.{Opened, without, toOthers, SameBut, Unaltered, PostsNothing, keptCalls, keptOutcomes, NoneAccepted, UnalteredUntilExec, clientsAfter}
+use Rattle.calls.specs.Posting.{closedClients}
+use Rattle.calls.specs.Made.{requestSeen, groupSeen, Made, unmade, byRequest, byGroup, Holds, MadeClaim, OpensClaim, MadeIsolation, MadeUntilExec, MadeHolds}
 use Rattle.calls.proofs.Demand3Proved.{demand-3}
 use Rattle.calls.proofs.OpenLaws.{opens}
 
@@ -63,10 +63,6 @@ all-verdicts ms st =
     let c = length-append (judgeAll [] (take n ms) st .verdicts) (replicate (length ms - n) NotTaken) in
     omega (arith, a, b, c)
 
-length-map : {A B : Type 0} (f : A → B) (xs : List A) → length (map f xs) ≡ length xs
-length-map f [] = refl
-length-map f (x ∷ xs) = ap suc (length-map f xs)
-
 over-seen : (s v : Bytes) (n : ℕ) → length s ≡ n → take n (over-front s v) ≡ s
 unfolding over-front
 over-seen s v n e = take-at s (drop (length s) v) n e
@@ -80,7 +76,7 @@ group-outcome ms parts d v w b = go (validStore w b) (groupFits parts d ms v)
     g = group (map (pendingOf parts d) ms) (storeIn w b)
 
     long : length (map verdictByte (g .verdicts)) ≡ length ms
-    long = length-map verdictByte (g .verdicts) ∙ all-verdicts (map (pendingOf parts d) ms) (storeIn w b) ∙ length-map (pendingOf parts d) ms
+    long = length-map (g .verdicts) verdictByte ∙ all-verdicts (map (pendingOf parts d) ms) (storeIn w b) ∙ length-map ms (pendingOf parts d)
 
     by : Bool → Bool → StoreCalled
     by x y = elim x [ false ↦ refusesStore 9 w b | true ↦ elim y [ false ↦ refusesStore 8 w b | true ↦ givesStore (judged g) (g .store) w b ] ]
@@ -129,6 +125,7 @@ made-claim l l′ cs os o m =
       counters = demand-3 .counters cs l o;
       sums = demand-3 .counterReplies cs l o;
       watches = demand-3 .postedWatches cs l o;
+      verdicts = demand-3 .verdicts cs l o;
       moved = demand-3 .watches cs l o;
       fit = v .0;
       no-nine = v .1;
@@ -155,12 +152,27 @@ made-isolation l l₁ l₂ m m₂ before cs os₁ os₂ os′ i o a c fit same d
     let n = as-defined cs os₂ c in
     let r = as-defined (without i cs) os′ d in
     let u : Unaltered i cs (final before l) m =
-    demand-3 .isolation before cs l m i o fit (coe 0 1 (z. SameBut i (k .left z) m) same) (coe 0 1 (z. PostsNothing i cs (k .left z) (desksAfter before l closedDesks)) posts) in
+    demand-3 .isolation before cs l m i o fit (coe 0 1 (z. SameBut i (k .left z) m) same) (coe 0 1 (z. PostsNothing i cs (k .left z) (clientsAfter before l closedClients)) posts) in
     let v : Unaltered i cs l₁ m = coe 1 0 (z. Unaltered i cs (k .left z) m) u in
     record {
       answers = ap (toOthers i cs) (n .seen) ∙ v .answers ∙ sym (r .seen);
       left = coe 1 0 (z. SameBut i (n .left z) (r .left z)) (v .left);
     }
 
+-- and until its EXEC is accepted
+made-until-exec : MadeUntilExec
+made-until-exec l l₁ l₂ m m₂ before cs os₁ os₂ os′ i o a c fit same free none d =
+    let k = as-defined before os₁ a in
+    let n = as-defined cs os₂ c in
+    let ds = clientsAfter before l closedClients in
+    let seen : os₂ ≡ outcomes cs (final before l) = n .seen ∙ ap (outcomes cs) (k .left) in
+    let r = as-defined (keptCalls i cs os₂ ds) os′ d in
+    let u : UnalteredUntilExec i cs ds (final before l) m =
+    demand-3 .untilExec before cs l m i o fit (coe 0 1 (z. SameBut i (k .left z) m) same) free (coe 0 1 (z. NoneAccepted i cs (seen z)) none) in
+    record {
+      answers = ap (λ (os : List Outcome). keptOutcomes i cs os ds) seen ∙ u .answers ∙ ap (λ (os : List Outcome). outcomes (keptCalls i cs os ds) m) (sym seen) ∙ sym (r .seen);
+      left = coe 1 0 (z. SameBut i ((n .left ∙ ap (final cs) (k .left)) z) ((r .left ∙ ap (λ (os : List Outcome). final (keptCalls i cs os ds) m) seen) z)) (u .left);
+    }
+
 pub made : MadeHolds
-made = record { opens = made-opens; claim = made-claim; isolation = made-isolation }
+made = record { opens = made-opens; claim = made-claim; isolation = made-isolation; untilExec = made-until-exec }

@@ -15,7 +15,7 @@ use Rattle.key.specs.Bytes.{Bytes}
 use Rattle.key.specs.Keys.{Key}
 use Rattle.resp.specs.Request.{readRequest}
 use Rattle.memtable.specs.Table.{Table}
-use Rattle.memtable.specs.Versions.{Store, moved, table}
+use Rattle.memtable.specs.Versions.{Store, newest, moved, table}
 use Rattle.memtable.specs.Layout.{emptyStore}
 use Rattle.batch.specs.declared.Member.{Member}
 use Rattle.batch.specs.Group.{Pending, among, group}
@@ -25,8 +25,9 @@ use Rattle.server.specs.Session.{Watching, watchedKeys}
 use Rattle.server.specs.Finish.{Served}
 use Rattle.calls.specs.Serve.{Outcome, answered, refused}
 use Rattle.calls.specs.Calls.{Lent, valid, storeOf, sessionOf, Called, leaveServed, request-call, Call, request, grouped, call, outcomes, final}
-use Rattle.calls.specs.Posting.{Item, Desk, closed, turnAsked, askedBy, Entered, enter, history, closedDesks, post, postAll, AllHold}
-use Rattle.calls.specs.Demand3.{Opened, itemsOf, Claim, writtenIn, StaysValid}
+use Rattle.calls.specs.Posting.{Item, Client, closed, turnAsked, askedBy, Entered, enter, history, closedClients, post, postAll, AllHold}
+use Rattle.calls.specs.Verdicts.{writtenIn}
+use Rattle.calls.specs.Demand3.{Opened, itemsOf, Claim, StaysValid}
 use Rattle.calls.proofs.MovedLaws.{no-keys}
 use Rattle.calls.proofs.FollowLaws.{Mirrors, closed-clear}
 use Rattle.calls.proofs.ServeLaws.{usedBy, serve-kept, serve-used, serve-follows}
@@ -44,8 +45,8 @@ unfolding postAll
 hold-append [] ys t h k = k
 hold-append (x ∷ xs) ys t h k = (h .0, hold-append xs ys (post x t) (h .1) k)
 
--- a desk for each session, which mirrors it
-pub record Desks (l : Lent) (ds : List Desk) : Type 0 where
+-- a client for each session, which mirrors it
+pub record Clients (l : Lent) (ds : List Client) : Type 0 where
   pub sixteen : length ds ≡ 16
   pub mirrors : (j : ℕ) → j < 16 → Mirrors (getD ds j closed) (sessionOf j l)
 
@@ -54,26 +55,27 @@ pub record StepFollows (l : Lent) (e : Entered) (l′ : Lent) : Type 0 where
   pub fit : valid l′ ≡ true
   pub tables : postAll (e .items) (table (storeOf l .versions)) ≡ table (storeOf l′ .versions)
   pub holds : AllHold (e .items) (table (storeOf l .versions))
-  pub desks : Desks l′ (e .desks)
+  pub clients : Clients l′ (e .clients)
   pub quiet : e .items ≡ [] → storeOf l′ ≡ storeOf l
   pub moves : (k : Key) → among (writtenIn (e .items) (table (storeOf l .versions))) k ≡ true → moved (storeOf l .last) (storeOf l′ .versions) k ≡ true
+  pub keeps : (k : Key) → among (writtenIn (e .items) (table (storeOf l .versions))) k ≡ false → newest (storeOf l′ .versions) k ≡ newest (storeOf l .versions) k
 
-module _ (l : Lent) (ds : List Desk) (ok : valid l ≡ true) (g : Desks l ds) where
+module _ (l : Lent) (ds : List Client) (ok : valid l ≡ true) (g : Clients l ds) where
   answer-entered : (i : ℕ) (input : Bytes) (places room : ℕ) (o : Outcome) → eqb (o .number) 0 ≡ true
       → enter (request i input places room) o ds
-      ≡ (let t = turnAsked (askedBy input (readRequest places input)) (o .reply) (getD ds i closed) in record { desks = set ds i (t .desk); items = t .items })
+      ≡ (let t = turnAsked (askedBy input (readRequest places input)) (o .reply) (getD ds i closed) in record { clients = set ds i (t .client); items = t .items })
   unfolding enter
   answer-entered i input places room o p = rw (p, enter)
 
   -- a call that returned a number is not entered
-  number-entered : (c : Call) (n : ℕ) → eqb n 0 ≡ false → (o : Outcome) → o .number ≡ n → enter c o ds ≡ record { desks = ds; items = [] }
+  number-entered : (c : Call) (n : ℕ) → eqb n 0 ≡ false → (o : Outcome) → o .number ≡ n → enter c o ds ≡ record { clients = ds; items = [] }
   unfolding enter
   number-entered (request i s places room) n e o p = rw (ap (λ (x : ℕ). eqb x 0) p ∙ e, enter)
   number-entered (grouped ms parts d verdicts) n e o p = rw (ap (λ (x : ℕ). eqb x 0) p ∙ e, enter)
 
-  unentered : (l′ : Lent) → valid l′ ≡ true → storeOf l′ ≡ storeOf l → Desks l′ ds → StepFollows l (record { desks = ds; items = [] }) l′
+  unentered : (l′ : Lent) → valid l′ ≡ true → storeOf l′ ≡ storeOf l → Clients l′ ds → StepFollows l (record { clients = ds; items = [] }) l′
   unfolding postAll
-  unentered l′ fit st k = record { fit = fit; tables = ap (λ (x : Store). table (x .versions)) (sym st); holds = tt; desks = k; quiet = λ e. st; moves = λ k h. no-keys _ k h }
+  unentered l′ fit st k = record { fit = fit; tables = ap (λ (x : Store). table (x .versions)) (sym st); holds = tt; clients = k; quiet = λ e. st; moves = λ k h. no-keys _ k h; keeps = λ k h. ap (λ (x : Store). newest (x .versions) k) st }
 
   module _ (i : ℕ) (input : Bytes) (places room : ℕ) (h : i < 16) where
     abbrev d : Served
@@ -85,8 +87,8 @@ module _ (l : Lent) (ds : List Desk) (ok : valid l ≡ true) (g : Desks l ds) wh
     left : Leaves i l d l′
     left = request-leaves i input places room l h ok
 
-    -- the desk of session i is renewed, and the others mirror sessions that stay
-    renewed : (x : Desk) → Mirrors x (d .session) → Desks l′ (set ds i x)
+    -- the client of session i is renewed, and the others mirror sessions that stay
+    renewed : (x : Client) → Mirrors x (d .session) → Clients l′ (set ds i x)
     renewed x m = record {
       sixteen = length-set ds i x ∙ g .sixteen;
       mirrors = λ j k. which j k (ℕ-discrete j i);
@@ -96,8 +98,8 @@ module _ (l : Lent) (ds : List Desk) (ok : valid l ≡ true) (g : Desks l ds) wh
         which j k (yes e) = rw (e, getD-set-same ds i x closed (omega (arith, g .sixteen)), left .own) m
         which j k (no n) = rw (getD-set-other ds i j x closed n, left .others j k n) (g .mirrors j k)
 
-    -- with a number the session keeps queue and watch, and the desks stay
-    kept : (d .session .queue ≡ sessionOf i l .queue) → (d .session .watch ≡ sessionOf i l .watch) → Desks l′ ds
+    -- with a number the session keeps queue and watch, and the clients stay
+    kept : (d .session .queue ≡ sessionOf i l .queue) → (d .session .watch ≡ sessionOf i l .watch) → Clients l′ ds
     kept p q = record { sixteen = g .sixteen; mirrors = λ j k. which j k (ℕ-discrete j i) }
       where
         own : Mirrors (getD ds i closed) (d .session)
@@ -125,9 +127,10 @@ module _ (l : Lent) (ds : List Desk) (ok : valid l ≡ true) (g : Desks l ds) wh
               fit = left .fit;
               tables = f .tables ∙ ap (λ (x : Store). table (x .versions)) (sym (left .store));
               holds = f .holds;
-              desks = renewed _ (f .desk);
+              clients = renewed _ (f .client);
               quiet = λ e. left .store ∙ f .quiet e;
               moves = λ k e. rw (left .store) (f .moves k e);
+              keeps = λ k e. rw (left .store) (f .keeps k e);
             })
 
   request-follows : (i : ℕ) (input : Bytes) (places room : ℕ) → StepFollows l (enter (request i input places room) (call (request i input places room) l .outcome) ds) (call (request i input places room) l .lent)
@@ -160,9 +163,10 @@ module _ (l : Lent) (ds : List Desk) (ok : valid l ≡ true) (g : Desks l ds) wh
             fit = q .fit;
             tables = unfold enter in (f .tables ∙ ap (λ (x : Store). table (x .versions)) (sym (q .store)));
             holds = unfold enter in f .holds;
-            desks = unfold enter in record { sixteen = g .sixteen; mirrors = λ j k. rw (q .sessions j) (g .mirrors j k) };
+            clients = unfold enter in record { sixteen = g .sixteen; mirrors = λ j k. rw (q .sessions j) (g .mirrors j k) };
             quiet = unfold enter in λ e. q .store ∙ f .quiet e;
             moves = unfold enter in λ k e. rw (q .store) (f .moves k e);
+            keeps = unfold enter in λ k e. rw (q .store) (f .keeps k e);
           })
 
   pub step-follows : (c : Call) → StepFollows l (enter c (call c l .outcome) ds) (call c l .lent)
@@ -174,7 +178,7 @@ pub record Posts (cs : List Call) (l : Lent) (items : List Item) : Type 0 where
   pub tables : table (storeOf (final cs l) .versions) ≡ postAll items (table (storeOf l .versions))
   pub holds : AllHold items (table (storeOf l .versions))
 
-pub posts : (cs : List Call) (l : Lent) (ds : List Desk) → valid l ≡ true → Desks l ds → Posts cs l (history cs (outcomes cs l) ds)
+pub posts : (cs : List Call) (l : Lent) (ds : List Client) → valid l ≡ true → Clients l ds → Posts cs l (history cs (outcomes cs l) ds)
 unfolding final outcomes history postAll
 posts [] l ds ok g = record { tables = refl; holds = tt }
 posts (c ∷ cs) l ds ok g =
@@ -182,17 +186,17 @@ posts (c ∷ cs) l ds ok g =
     let e = enter c (call c l .outcome) ds in
     let l′ = call c l .lent in
     let t = table (storeOf l .versions) in
-    let later = history cs (outcomes cs l′) (e .desks) in
-    let rest = posts cs l′ (e .desks) (f .fit) (f .desks) in
+    let later = history cs (outcomes cs l′) (e .clients) in
+    let rest = posts cs l′ (e .clients) (f .fit) (f .clients) in
     record {
       tables = rest .tables ∙ ap (postAll later) (sym (f .tables)) ∙ sym (post-append (e .items) later t);
       holds = hold-append (e .items) later t (f .holds) (rw (f .tables) (rest .holds));
     }
 
 -- from an opened store and clear sessions
-pub opened-desks : (l : Lent) → Opened l → Desks l closedDesks
-unfolding closedDesks
-opened-desks l o = record { sixteen = refl; mirrors = λ j h. rw (getD-replicate 16 j closed closed h, o .sessions j h) closed-clear }
+pub opened-clients : (l : Lent) → Opened l → Clients l closedClients
+unfolding closedClients
+opened-clients l o = record { sixteen = refl; mirrors = λ j h. rw (getD-replicate 16 j closed closed h, o .sessions j h) closed-clear }
 
 pub opened-table : (l : Lent) → Opened l → table (storeOf l .versions) ≡ []
 unfolding emptyStore table
@@ -200,7 +204,7 @@ opened-table l o = ap (λ (x : Store). table (x .versions)) (o .store)
 
 pub claim : Claim
 claim cs l o =
-    let p = posts cs l closedDesks (o .fit) (opened-desks l o) in
+    let p = posts cs l closedClients (o .fit) (opened-clients l o) in
     let t = opened-table l o in
     record { tables = p .tables ∙ ap (postAll (itemsOf cs l)) t; replies = rw t at (p .holds) }
 

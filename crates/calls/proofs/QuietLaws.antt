@@ -15,15 +15,16 @@ use Rattle.server.specs.Command.{commandOf}
 use Rattle.server.specs.Session.{execAbort}
 use Rattle.calls.specs.Serve.{Outcome}
 use Rattle.calls.specs.Calls.{Call, request, grouped}
-use Rattle.calls.specs.Posting.{Asked, nothing, broken, asks, askedBy, isReply, isArray, exec, Desk, closed, Turn, onlyIf, turnExec, turnBy, turnAsked, enter}
-use Rattle.calls.specs.Demand3.{isExec, asksExec, FedClaim, isCommand, asksCommand, Quiet}
+use Rattle.calls.specs.Posting.{Asked, nothing, broken, asks, askedBy, isReply, isArray, exec, Client, closed, Turn, onlyIf, turnExec, turnBy, turnAsked, enter}
+use Rattle.calls.specs.Verdicts.{isExec, asksExec}
+use Rattle.calls.specs.Demand3.{FedClaim, isCommand, asksCommand, Quiet}
 
-module _ (b : Bytes) (d : Desk) where
+module _ (b : Bytes) (d : Client) where
   exec-quiet : (q : List Args) → (isArray b ≡ true → ⊥) → turnExec q b d .items ≡ []
   unfolding turnExec
   exec-quiet q n = go (isArray b) refl
     where
-      go : (t : Bool) → isArray b ≡ t → cond {A = Turn} t (record { desk = closed; items = exec (d .watched) (map commandOf q) b ∷ [] }) (onlyIf (isReply NilArray b || isReply execAbort b) d closed) .items ≡ []
+      go : (t : Bool) → isArray b ≡ t → cond {A = Turn} t (record { client = closed; items = exec (d .watched) (map commandOf q) b ∷ [] }) (onlyIf (isReply NilArray b || isReply execAbort b) d closed) .items ≡ []
       go true e = absurd (n e)
       go false e = refl
 
@@ -63,7 +64,7 @@ module _ (b : Bytes) (d : Desk) where
       let c = controlOf (rowOf (nameWord a) .name) in
       ap (λ (x : Option (List Args)). turnBy c x a b d .items) e ∙ closed-quiet c a n
 
-module _ (i : ℕ) (s : Bytes) (places room : ℕ) (o : Outcome) (ds : List Desk) where
+module _ (i : ℕ) (s : Bytes) (places room : ℕ) (o : Outcome) (ds : List Client) where
   -- a request posts what its turn posts
   request-quiet : (o .number ≡ 0 → turnAsked (askedBy s (readRequest places s)) (o .reply) (getD ds i closed) .items ≡ []) →
       enter (request i s places room) o ds .items ≡ []
@@ -74,7 +75,7 @@ module _ (i : ℕ) (s : Bytes) (places room : ℕ) (o : Outcome) (ds : List Desk
       go true e = rw (e, enter) (h (eqb-true (o .number) 0 e))
       go false e = rw (e, enter)
 
-number-quiet : (c : Call) (o : Outcome) (ds : List Desk) → (o .number ≡ 0 → ⊥) → enter c o ds .items ≡ []
+number-quiet : (c : Call) (o : Outcome) (ds : List Client) → (o .number ≡ 0 → ⊥) → enter c o ds .items ≡ []
 unfolding enter
 number-quiet (request i s places room) o ds n = rw (ne-eqb (o .number) 0 n, enter)
 number-quiet (grouped ms parts d verdicts) o ds n = rw (ne-eqb (o .number) 0 n, enter)

@@ -18,7 +18,7 @@ use Rattle.server.specs.Session.{Session, clear, Result, number, reply, Done, s
 use Rattle.server.proofs.SessionLaws.{SessionSound, clear-sound, Refuses, Renewed, renewed-same, Kept, says-kept, respond-kept}
 use Rattle.server.specs.Finish.{Served, silent, fitted, finishBy, finish}
 use Rattle.calls.specs.Serve.{protocolError, serveReading, serve}
-use Rattle.calls.specs.Posting.{Asked, nothing, broken, asks, askedBy, Desk, closed, turnAsked}
+use Rattle.calls.specs.Posting.{Asked, nothing, broken, asks, askedBy, Client, closed, turnAsked}
 use Rattle.calls.proofs.FollowLaws.{Mirrors, closed-clear, Follows, still, FollowedBy, respond-follows}
 
 pub record ServeKept (st : Store) (s : Session) (v : Served) : Type 0 where
@@ -90,7 +90,7 @@ module _ (st : Store) (s : Session) (sound : Sound st) (good : SessionSound (st 
   serve-used places room input = reading-used room input (readRequest places input)
 
   -- POSTING, by what was asked and answered
-  module _ (d : Desk) (m : Mirrors d s) where
+  module _ (d : Client) (m : Mirrors d s) where
     abbrev ServeFollows : Asked → Served → Type 0
     ServeFollows a v = v .number ≡ 0 → Follows st (v .store) (v .session) (turnAsked a (v .reply) d)
 
@@ -129,7 +129,7 @@ module _ (st : Store) (s : Session) (sound : Sound st) (good : SessionSound (st 
     reading-follows room input (whole (p ∷ ps) used) =
         let a = map (spanned input) (p ∷ ps) in
         finish-follows (asks a) room used (respond a st s) (respond-kept st s sound good (spanned input p) (map (spanned input) ps))
-        (asked-follows a (respond a st s) (respond a st s .result) refl (respond-follows st s d sound m a))
+        (asked-follows a (respond a st s) (respond a st s .result) refl (respond-follows st s d sound good m a))
 
     pub serve-follows : (places room : ℕ) (input : Bytes) → ServeFollows (askedBy input (readRequest places input)) (serve places room input st s)
     unfolding serve

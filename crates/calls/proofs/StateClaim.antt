@@ -16,7 +16,7 @@ use Rattle.batch.specs.Members.{groupFits, pendingOf}
 use Rattle.batch.proofs.GroupLaws.{after-group}
 use Rattle.calls.specs.Serve.{State, openState, Outcome, refused, Stepped, requestOn}
 use Rattle.calls.specs.Calls.{Lent, valid, storeOf, judged, Call, request, grouped, call, outcomes, final}
-use Rattle.calls.specs.Posting.{history, closedDesks, postAll, AllHold}
+use Rattle.calls.specs.Posting.{history, closedClients, postAll, AllHold}
 use Rattle.calls.proofs.LentLaws.{valid-parts, judged-leaves, group-judged, group-refused}
 use Rattle.calls.proofs.StateLaws.{Represents, SameStep, request-same, holds-opened}
 use Rattle.calls.proofs.OpenLaws.{zeros, opens, opened-store}
@@ -83,8 +83,8 @@ list-same (c ∷ cs) l st ok r =
 
 -- DEMAND 3 on the state, from any opening
 pub record StateDemand3 (cs : List Call) (st : State) : Type 0 where
-  pub tables : table (finalOn cs st .store .versions) ≡ postAll (history cs (outcomesOn cs st) closedDesks) []
-  pub replies : AllHold (history cs (outcomesOn cs st) closedDesks) []
+  pub tables : table (finalOn cs st .store .versions) ≡ postAll (history cs (outcomesOn cs st) closedClients) []
+  pub replies : AllHold (history cs (outcomesOn cs st) closedClients) []
 
 pub state-claim : (cs : List Call) (last versions size : ℕ) → StateDemand3 cs (openState last versions size)
 state-claim cs last versions size =
@@ -93,7 +93,7 @@ state-claim cs last versions size =
     let same = list-same cs _ (openState last versions size) (o .fit) (holds-opened _ last versions size e (o .sessions)) in
     let d = claim cs _ o in
     record {
-      tables = ap (λ (x : Store). table (x .versions)) (sym (same .state .store)) ∙ d .tables ∙ ap (λ (os : List Outcome). postAll (history cs os closedDesks) []) (same .answers);
+      tables = ap (λ (x : Store). table (x .versions)) (sym (same .state .store)) ∙ d .tables ∙ ap (λ (os : List Outcome). postAll (history cs os closedClients) []) (same .answers);
       replies = rw (same .answers) at (d .replies);
     }
   where

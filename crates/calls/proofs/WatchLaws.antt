@@ -30,12 +30,22 @@ use Rattle.server.proofs.SessionLaws.{WatchHolds, Renewed, renewed-same, ranBy,
 use Rattle.server.specs.Finish.{Served, silent, fitted, finishBy, finish}
 use Rattle.calls.specs.Serve.{serveReading, serve, Outcome, answered}
 use Rattle.calls.specs.Calls.{Lent, valid, storeOf, sessionOf, Called, leaveServed, request-call, Call, request, grouped, call, outcomes}
-use Rattle.calls.specs.Posting.{askedBy, isArray, Desk, closed, enter, closedDesks, postAll}
-use Rattle.calls.specs.Demand3.{isExec, asksExec, Accepts, staleAfter, NoStaleExec, WatchClaim, writtenIn, staleIn, NoStalePosted, PostedWatchClaim}
+use Rattle.calls.specs.Posting.{askedBy, isArray, Client, closed, enter, closedClients, postAll}
+use Rattle.calls.specs.Verdicts.{isExec, asksExec, writtenIn}
+use Rattle.calls.specs.Demand3.{Accepts, staleAfter, NoStaleExec, WatchClaim, staleIn, NoStalePosted, PostedWatchClaim}
 use Rattle.calls.proofs.ReplyLaws.{error-no-array, nil-array-no-array}
 use Rattle.calls.proofs.ServeLaws.{serve-kept}
 use Rattle.calls.proofs.LentLaws.{valid-parts, session-good, Leaves, servedBy, request-served, request-refused, request-leaves, judged-leaves, group-judged, group-refused}
-use Rattle.calls.proofs.Posting.{Desks, step-follows, opened-desks, opened-table}
+use Rattle.calls.proofs.Posting.{Clients, step-follows, opened-clients, opened-table}
+
+pub is-exec : (c : Control) → isExec c ≡ true → c ≡ EXEC
+is-exec MULTI e = absurd (false≢true e)
+is-exec EXEC e = refl
+is-exec DISCARD e = absurd (false≢true e)
+is-exec WATCH e = absurd (false≢true e)
+is-exec UNWATCH e = absurd (false≢true e)
+is-exec QUIT e = absurd (false≢true e)
+is-exec other e = absurd (false≢true e)
 
 -- AN EXEC ANSWERED BY AN ARRAY met no conflict: no watched key has moved since the snapshot.
 module _ (st : Store) (s : Session) where
@@ -74,15 +84,6 @@ module _ (st : Store) (s : Session) where
   exec-fresh none r a e = rw e (unfold outsideMulti in error-fresh _)
   exec-fresh (some q) r a e = rw e (unfold insideMulti in execute-fresh q)
 
-  is-exec : (c : Control) → isExec c ≡ true → c ≡ EXEC
-  is-exec MULTI e = absurd (false≢true e)
-  is-exec EXEC e = refl
-  is-exec DISCARD e = absurd (false≢true e)
-  is-exec WATCH e = absurd (false≢true e)
-  is-exec UNWATCH e = absurd (false≢true e)
-  is-exec QUIT e = absurd (false≢true e)
-  is-exec other e = absurd (false≢true e)
-
   respond-fresh : (a : Args) → isExec (controlOf (rowOf (nameWord a) .name)) ≡ true → Fresh (respond a st s .result)
   unfolding respond
   respond-fresh a e = exec-fresh (s .queue) (rowOf (nameWord a)) a (is-exec _ e)
@@ -115,6 +116,63 @@ module _ (st : Store) (s : Session) where
   unfolding serve
   serve-fresh places room input = reading-fresh room input (readRequest places input)
 
+-- the snapshot of a sound session is not above the last sequence
+pub read-bound : (st : Store) (w : Option Watching) → WatchHolds (st .last) w → readSequence st w ≤ st .last
+read-bound st none h = omega arith
+read-bound st (some w) h = h .bound
+
+-- WHAT A CALL DOES TO THE WATCH of session i
+abbrev pub watchAt : ℕ → Lent → Option Watching
+watchAt i l = sessionOf i l .watch
+
+module _ (i : ℕ) (inside : i < 16) where
+  pub record Moves (l l′ : Lent) : Type 0 where
+    pub later : Later (storeOf l) (storeOf l′)
+    pub renewed : Renewed (storeOf l) (watchAt i l) (watchAt i l′)
+
+  unmoved : (l : Lent) → Moves l l
+  unmoved l = record { later = later-refl (storeOf l); renewed = renewed-same (storeOf l) (watchAt i l) }
+
+  -- every call leaves a later store, and renews the watch of session i at most
+  request-moves : (j : ℕ) (input : Bytes) (places room : ℕ) (l : Lent) → valid l ≡ true → Moves l (request-call j input places room l .lent)
+  request-moves j input places room l ok = go (ltb j 16) refl
+    where
+      go : (b : Bool) → ltb j 16 ≡ b → Moves l (request-call j input places room l .lent)
+      go false p = rw (request-refused j input places room l p) (unmoved l)
+      go true p =
+          let h = ltb-true j 16 p in
+          let v = valid-parts l ok in
+          let d = servedBy j input places room l in
+          let kept = serve-kept (storeOf l) (sessionOf j l) (v .sound) (session-good l v j h) places room input in
+          let left = request-leaves j input places room l h ok in
+          rw (request-served j input places room l h ok) (record {
+            later = rw (left .store) (kept .store .later);
+            renewed = which h (kept .watch) left (ℕ-discrete i j);
+          })
+        where
+          which : j < 16 → Renewed (storeOf l) (sessionOf j l .watch) (servedBy j input places room l .session .watch)
+              → Leaves j l (servedBy j input places room l) (leaveServed j (servedBy j input places room l) l)
+              → Dec (i ≡ j) → Renewed (storeOf l) (watchAt i l) (watchAt i (leaveServed j (servedBy j input places room l) l))
+          which h r left (yes e) =
+              subst (λ (n : ℕ). Renewed (storeOf l) (sessionOf n l .watch) (sessionOf n (leaveServed j (servedBy j input places room l) l) .watch)) (sym e)
+              (subst (λ (x : Session). Renewed (storeOf l) (sessionOf j l .watch) (x .watch)) (sym (left .own)) r)
+          which h r left (no n) =
+              subst (λ (x : Session). Renewed (storeOf l) (watchAt i l) (x .watch)) (sym (left .others i inside n)) (renewed-same (storeOf l) (watchAt i l))
+
+  group-moves : (ms : List Member) (parts : List ℕ) (text verdicts : Bytes) (l : Lent) → valid l ≡ true → Moves l (call (grouped ms parts text verdicts) l .lent)
+  group-moves ms parts text verdicts l ok = go (groupFits parts text ms verdicts) refl
+    where
+      go : (b : Bool) → groupFits parts text ms verdicts ≡ b → Moves l (call (grouped ms parts text verdicts) l .lent)
+      go false p = rw (group-refused ms parts text verdicts l ok p) (unmoved l)
+      go true p =
+          let a = after-group (map (pendingOf parts text) ms) (storeOf l) (valid-parts l ok .sound) in
+          let q = judged-leaves l (group (map (pendingOf parts text) ms) (storeOf l) .store) ok a in
+          rw (group-judged ms parts text verdicts l ok p) (record { later = rw (q .store) (a .later); renewed = renewed-same (storeOf l) (watchAt i l) })
+
+  pub call-moves : (c : Call) (l : Lent) → valid l ≡ true → Moves l (call c l .lent)
+  call-moves (request j input places room) l ok = unfold call in request-moves j input places room l ok
+  call-moves (grouped ms parts text verdicts) l ok = group-moves ms parts text verdicts l ok
+
 module _ (k : Key) where
   -- A STALE KEY is watched, and has moved since the snapshot.
   abbrev Late : Store → Option Watching → Bool → Type 0
@@ -134,64 +192,9 @@ module _ (k : Key) where
       go true p false q false n e = absurd (false≢true e)
       go false p t q m n e = absurd (false≢true e)
 
-  -- the snapshot of a sound session is not above the last sequence
-  read-bound : (st : Store) (w : Option Watching) → WatchHolds (st .last) w → readSequence st w ≤ st .last
-  read-bound st none h = omega arith
-  read-bound st (some w) h = h .bound
-
   module _ (i : ℕ) (inside : i < 16) where
-    abbrev watchAt : Lent → Option Watching
-    watchAt l = sessionOf i l .watch
-
-    record Moves (l l′ : Lent) : Type 0 where
-      later : Later (storeOf l) (storeOf l′)
-      renewed : Renewed (storeOf l) (watchAt l) (watchAt l′)
-
-    unmoved : (l : Lent) → Moves l l
-    unmoved l = record { later = later-refl (storeOf l); renewed = renewed-same (storeOf l) (watchAt l) }
-
-    -- every call leaves a later store, and renews the watch of session i at most
-    request-moves : (j : ℕ) (input : Bytes) (places room : ℕ) (l : Lent) → valid l ≡ true → Moves l (request-call j input places room l .lent)
-    request-moves j input places room l ok = go (ltb j 16) refl
-      where
-        go : (b : Bool) → ltb j 16 ≡ b → Moves l (request-call j input places room l .lent)
-        go false p = rw (request-refused j input places room l p) (unmoved l)
-        go true p =
-            let h = ltb-true j 16 p in
-            let v = valid-parts l ok in
-            let d = servedBy j input places room l in
-            let kept = serve-kept (storeOf l) (sessionOf j l) (v .sound) (session-good l v j h) places room input in
-            let left = request-leaves j input places room l h ok in
-            rw (request-served j input places room l h ok) (record {
-              later = rw (left .store) (kept .store .later);
-              renewed = which h (kept .watch) left (ℕ-discrete i j);
-            })
-          where
-            which : j < 16 → Renewed (storeOf l) (sessionOf j l .watch) (servedBy j input places room l .session .watch)
-                → Leaves j l (servedBy j input places room l) (leaveServed j (servedBy j input places room l) l)
-                → Dec (i ≡ j) → Renewed (storeOf l) (watchAt l) (watchAt (leaveServed j (servedBy j input places room l) l))
-            which h r left (yes e) =
-                subst (λ (n : ℕ). Renewed (storeOf l) (sessionOf n l .watch) (sessionOf n (leaveServed j (servedBy j input places room l) l) .watch)) (sym e)
-                (subst (λ (x : Session). Renewed (storeOf l) (sessionOf j l .watch) (x .watch)) (sym (left .own)) r)
-            which h r left (no n) =
-                subst (λ (x : Session). Renewed (storeOf l) (watchAt l) (x .watch)) (sym (left .others i inside n)) (renewed-same (storeOf l) (watchAt l))
-
-    group-moves : (ms : List Member) (parts : List ℕ) (text verdicts : Bytes) (l : Lent) → valid l ≡ true → Moves l (call (grouped ms parts text verdicts) l .lent)
-    group-moves ms parts text verdicts l ok = go (groupFits parts text ms verdicts) refl
-      where
-        go : (b : Bool) → groupFits parts text ms verdicts ≡ b → Moves l (call (grouped ms parts text verdicts) l .lent)
-        go false p = rw (group-refused ms parts text verdicts l ok p) (unmoved l)
-        go true p =
-            let a = after-group (map (pendingOf parts text) ms) (storeOf l) (valid-parts l ok .sound) in
-            let q = judged-leaves l (group (map (pendingOf parts text) ms) (storeOf l) .store) ok a in
-            rw (group-judged ms parts text verdicts l ok p) (record { later = rw (q .store) (a .later); renewed = renewed-same (storeOf l) (watchAt l) })
-
-    call-moves : (c : Call) (l : Lent) → valid l ≡ true → Moves l (call c l .lent)
-    call-moves (request j input places room) l ok = unfold call in request-moves j input places room l ok
-    call-moves (grouped ms parts text verdicts) l ok = group-moves ms parts text verdicts l ok
-
     -- an accepted EXEC finds no stale key
-    accepts-fresh : (c : Call) (l : Lent) (stale : Bool) → valid l ≡ true → Late (storeOf l) (watchAt l) stale → stale ≡ true → Accepts i c (call c l .outcome) → ⊥
+    accepts-fresh : (c : Call) (l : Lent) (stale : Bool) → valid l ≡ true → Late (storeOf l) (watchAt i l) stale → stale ≡ true → Accepts i c (call c l .outcome) → ⊥
     accepts-fresh (grouped ms parts text verdicts) l stale ok h e a = a
     accepts-fresh (request j input places room) l stale ok h e a =
         let served : request-call i input places room l .outcome ≡ answered (servedBy i input places room l) = ap (λ (x : Called). x .outcome) (request-served i input places room l inside ok) in
@@ -199,19 +202,19 @@ module _ (k : Key) where
         ap (λ (x : Outcome). isArray (x .reply)) (sym served) ∙ ap (λ (n : ℕ). isArray (request-call n input places room l .outcome .reply)) (sym (a .0)) ∙ (unfold call in a .3) in
         neither (h e .1) (serve-fresh (storeOf l) (sessionOf i l) places room input (a .2) answer k (h e .0))
 
-    no-stale : (cs : List Call) (l : Lent) (ds : List Desk) (stale : Bool) → valid l ≡ true → Desks l ds → Late (storeOf l) (watchAt l) stale → NoStaleExec i k cs l ds stale
+    no-stale : (cs : List Call) (l : Lent) (ds : List Client) (stale : Bool) → valid l ≡ true → Clients l ds → Late (storeOf l) (watchAt i l) stale → NoStaleExec i k cs l ds stale
     no-stale [] l ds stale ok g h = tt
     no-stale (c ∷ cs) l ds stale ok g h =
         let f = step-follows l ds ok g c in
-        let m = call-moves c l ok in
+        let m = call-moves i inside c l ok in
         let l′ = call c l .lent in
-        let ds′ = enter c (call c l .outcome) ds .desks in
+        let ds′ = enter c (call c l .outcome) ds .clients in
         let v = valid-parts l ok in
-        let same : among (getD ds′ i closed .watched) k ≡ among (watchedKeys (watchAt l′)) k = f .desks .mirrors i inside .watched k in
-        let late = late-step (storeOf l) (storeOf l′) (watchAt l) (watchAt l′) stale (m .later) (m .renewed) (read-bound (storeOf l) (watchAt l) (session-good l v i inside .watch)) h in (
+        let same : among (getD ds′ i closed .watched) k ≡ among (watchedKeys (watchAt i l′)) k = f .clients .mirrors i inside .watched k in
+        let late = late-step (storeOf l) (storeOf l′) (watchAt i l) (watchAt i l′) stale (m .later) (m .renewed) (read-bound (storeOf l) (watchAt i l) (session-good l v i inside .watch)) h in (
           accepts-fresh c l stale ok h,
-          no-stale cs l′ ds′ (staleAfter i k c l ds stale) (f .fit) (f .desks)
-              (subst (λ (b : Bool). Late (storeOf l′) (watchAt l′) (b && (stale || moved (storeOf l .last) (storeOf l′ .versions) k))) (sym same) late),
+          no-stale cs l′ ds′ (staleAfter i k c l ds stale) (f .fit) (f .clients)
+              (subst (λ (b : Bool). Late (storeOf l′) (watchAt i l′) (b && (stale || moved (storeOf l .last) (storeOf l′ .versions) k))) (sym same) late),
         )
 
     -- the same by posting: a key that it writes has moved
@@ -222,21 +225,21 @@ module _ (k : Key) where
     weaker true false false x f e = absurd (false≢true e)
     weaker false b d x f e = e
 
-    no-stale-posted : (cs : List Call) (l : Lent) (ds : List Desk) (t : Table) (stale : Bool) → valid l ≡ true → Desks l ds → t ≡ table (storeOf l .versions)
-        → Late (storeOf l) (watchAt l) stale → NoStalePosted i k cs (outcomes cs l) ds t stale
+    no-stale-posted : (cs : List Call) (l : Lent) (ds : List Client) (t : Table) (stale : Bool) → valid l ≡ true → Clients l ds → t ≡ table (storeOf l .versions)
+        → Late (storeOf l) (watchAt i l) stale → NoStalePosted i k cs (outcomes cs l) ds t stale
     unfolding outcomes
     no-stale-posted [] l ds t stale ok g same h = tt
     no-stale-posted (c ∷ cs) l ds t stale ok g same h =
         let f = step-follows l ds ok g c in
-        let m = call-moves c l ok in
+        let m = call-moves i inside c l ok in
         let l′ = call c l .lent in
         let e = enter c (call c l .outcome) ds in
         let v = valid-parts l ok in
-        let watched : among (getD (e .desks) i closed .watched) k ≡ among (watchedKeys (watchAt l′)) k = f .desks .mirrors i inside .watched k in
-        let late = late-step (storeOf l) (storeOf l′) (watchAt l) (watchAt l′) stale (m .later) (m .renewed) (read-bound (storeOf l) (watchAt l) (session-good l v i inside .watch)) h in (
+        let watched : among (getD (e .clients) i closed .watched) k ≡ among (watchedKeys (watchAt i l′)) k = f .clients .mirrors i inside .watched k in
+        let late = late-step (storeOf l) (storeOf l′) (watchAt i l) (watchAt i l′) stale (m .later) (m .renewed) (read-bound (storeOf l) (watchAt i l) (session-good l v i inside .watch)) h in (
           accepts-fresh c l stale ok h,
-          no-stale-posted cs l′ (e .desks) (postAll (e .items) t) (staleIn i k e t stale) (f .fit) (f .desks) (ap (postAll (e .items)) same ∙ f .tables)
-              (λ z. late (weaker (among (watchedKeys (watchAt l′)) k) (among (writtenIn (e .items) t) k) stale (moved (storeOf l .last) (storeOf l′ .versions) k) (λ y. f .moves k (rw same at y)) (rw watched at z))),
+          no-stale-posted cs l′ (e .clients) (postAll (e .items) t) (staleIn i k e t stale) (f .fit) (f .clients) (ap (postAll (e .items)) same ∙ f .tables)
+              (λ z. late (weaker (among (watchedKeys (watchAt i l′)) k) (among (writtenIn (e .items) t) k) stale (moved (storeOf l .last) (storeOf l′ .versions) k) (λ y. f .moves k (rw same at y)) (rw watched at z))),
         )
 
   -- a session above 15 gets no array
@@ -247,11 +250,11 @@ module _ (k : Key) where
       let z : request-call i input places room l .outcome .number ≡ 0 = ap (λ (m : ℕ). request-call m input places room l .outcome .number) (sym (a .0)) ∙ (unfold call in a .1) in
       omega (arith, n, z)
 
-  no-session : (i : ℕ) → ltb i 16 ≡ false → (cs : List Call) (l : Lent) (ds : List Desk) (stale : Bool) → NoStaleExec i k cs l ds stale
+  no-session : (i : ℕ) → ltb i 16 ≡ false → (cs : List Call) (l : Lent) (ds : List Client) (stale : Bool) → NoStaleExec i k cs l ds stale
   no-session i e [] l ds stale = tt
   no-session i e (c ∷ cs) l ds stale = (λ s a. never-accepts i e l c a, no-session i e cs _ _ _)
 
-  no-session-posted : (i : ℕ) → ltb i 16 ≡ false → (cs : List Call) (l : Lent) (ds : List Desk) (t : Table) (stale : Bool) → NoStalePosted i k cs (outcomes cs l) ds t stale
+  no-session-posted : (i : ℕ) → ltb i 16 ≡ false → (cs : List Call) (l : Lent) (ds : List Client) (t : Table) (stale : Bool) → NoStalePosted i k cs (outcomes cs l) ds t stale
   unfolding outcomes
   no-session-posted i e [] l ds t stale = tt
   no-session-posted i e (c ∷ cs) l ds t stale = (λ s a. never-accepts i e l c a, no-session-posted i e cs _ _ _ _)
@@ -259,13 +262,13 @@ module _ (k : Key) where
 pub no-exec-after-move : WatchClaim
 no-exec-after-move cs l o i k = go (ltb i 16) refl
   where
-    go : (b : Bool) → ltb i 16 ≡ b → NoStaleExec i k cs l closedDesks false
-    go true p = no-stale k i (ltb-true i 16 p) cs l closedDesks false (o .fit) (opened-desks l o) (λ e. absurd (false≢true e))
-    go false p = no-session k i p cs l closedDesks false
+    go : (b : Bool) → ltb i 16 ≡ b → NoStaleExec i k cs l closedClients false
+    go true p = no-stale k i (ltb-true i 16 p) cs l closedClients false (o .fit) (opened-clients l o) (λ e. absurd (false≢true e))
+    go false p = no-session k i p cs l closedClients false
 
 pub no-exec-after-write : PostedWatchClaim
 no-exec-after-write cs l o i k = go (ltb i 16) refl
   where
-    go : (b : Bool) → ltb i 16 ≡ b → NoStalePosted i k cs (outcomes cs l) closedDesks [] false
-    go true p = no-stale-posted k i (ltb-true i 16 p) cs l closedDesks [] false (o .fit) (opened-desks l o) (sym (opened-table l o)) (λ e. absurd (false≢true e))
-    go false p = no-session-posted k i p cs l closedDesks [] false
+    go : (b : Bool) → ltb i 16 ≡ b → NoStalePosted i k cs (outcomes cs l) closedClients [] false
+    go true p = no-stale-posted k i (ltb-true i 16 p) cs l closedClients [] false (o .fit) (opened-clients l o) (sym (opened-table l o)) (λ e. absurd (false≢true e))
+    go false p = no-session-posted k i p cs l closedClients [] false

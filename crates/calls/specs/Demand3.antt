@@ -1,7 +1,7 @@
 -- Demand 3: one claim about any list of calls, from an opened store and clear sessions.
 use Prim.Native.Nat.{ℕ, _<_}
-use mathlib.Core.List.{List, [], _∷_, _++_, map}
-use mathlib.Core.Bool.{Bool, true, false, cond, _&&_, _||_}
+use mathlib.Core.List.{List, [], _∷_}
+use mathlib.Core.Bool.{Bool, true, false, cond, not, _&&_, _||_}
 use mathlib.Core.Option.{Option, none, some}
 use mathlib.Core.Path.{_≡_}
 use lib.Dec.{eqb}
@@ -12,7 +12,7 @@ use Rattle.key.specs.Keys.{Key, sameKey}
 use Rattle.number.specs.Decimal.{decimal}
 use Rattle.resp.specs.Request.{readRequest}
 use Rattle.resp.specs.Reply.{Reply, Simple, Error, Integer, BulkString, Nil, NilArray, Array, array, encode}
-use Rattle.memtable.specs.Table.{Value, Entry, Table, keysOf, find, writeAll}
+use Rattle.memtable.specs.Table.{Value, Table, keysOf, find, writeAll}
 use Rattle.memtable.specs.Versions.{table, moved}
 use Rattle.memtable.specs.Layout.{emptyStore}
 use Rattle.batch.specs.Group.{among}
@@ -21,7 +21,8 @@ use Rattle.server.specs.Command.{Command, GET, SET, DEL, EXISTS, MGET, MSET, CO
 use Rattle.server.specs.Session.{clear}
 use Rattle.calls.specs.Serve.{Outcome}
 use Rattle.calls.specs.Calls.{Lent, valid, storeOf, sessionOf, Call, request, grouped, call, outcomes, final, request-call}
-use Rattle.calls.specs.Posting.{Asked, nothing, broken, asks, askedBy, isArray, Item, alone, listed, exec, member, Desk, closed, Entered, enter, history, closedDesks, postQueue, post, postAll, AllHold}
+use Rattle.calls.specs.Posting.{Asked, nothing, broken, asks, askedBy, isArray, Item, alone, listed, exec, member, Client, closed, Entered, enter, history, closedClients, post, postAll, AllHold}
+use Rattle.calls.specs.Verdicts.{setKeys, writtenIn, asksExec, newTransaction, VerdictsPosted}
 
 -- an empty store just opened, and clear sessions, in valid lent state
 pub record Opened (l : Lent) : Type 0 where
@@ -34,7 +35,7 @@ pub record Opened (l : Lent) : Type 0 where
 
 -- the items of posting's history, from the calls and their outcomes
 abbrev pub itemsOf : List Call → Lent → List Item
-itemsOf cs l = history cs (outcomes cs l) closedDesks
+itemsOf cs l = history cs (outcomes cs l) closedClients
 
 -- The table after the list, and the reply to each command carried out in it, are what posting gives.
 pub record Demand3 (cs : List Call) (l : Lent) : Type 0 where
@@ -48,7 +49,7 @@ Claim = (cs : List Call) (l : Lent) → Opened l → Demand3 cs l
 -- Posting is fed a call's number, reply and verdicts alone: not the bytes used.
 abbrev pub FedClaim : Type 0
 FedClaim =
-    (c : Call) (o p : Outcome) (ds : List Desk) → o .number ≡ p .number → o .reply ≡ p .reply → o .verdicts ≡ p .verdicts →
+    (c : Call) (o p : Outcome) (ds : List Client) → o .number ≡ p .number → o .reply ≡ p .reply → o .verdicts ≡ p .verdicts →
     enter c o ds ≡ enter c p ds
 
 -- THE SUM OF A COUNTER. The increments of a key that got an integer reply; `none` while there is none. (By `replies` above, a
@@ -90,17 +91,6 @@ sum k (alone c b ∷ xs) t n = sum k xs (post (alone c b) t) (sumQueue k (c ∷ 
 sum k (listed l b ∷ xs) t n = sum k xs t n
 sum k (exec watched q b ∷ xs) t n = sum k xs (post (exec watched q b) t) (sumQueue k q t n)
 sum k (member ws ∷ xs) t n = sum k xs (post (member ws) t) n
-
--- the keys that a command other than a counter writes
-unfoldable pub setKeys : Command → List Key
-setKeys (GET k) = []
-setKeys (SET k v) = k ∷ []
-setKeys (DEL ks) = ks
-setKeys (EXISTS ks) = []
-setKeys (MGET ks) = []
-setKeys (MSET es) = map (λ (e : Entry Value). e .0) es
-setKeys (COUNT k by) = []
-setKeys (FIXED r) = []
 
 -- no command of a queue but a counter writes the key
 abbrev pub NotSet : Key → List Command → Type 0
@@ -145,71 +135,48 @@ SumOf k (member ws ∷ xs) n m = SumOf k xs n m
 abbrev pub CounterReplies : Type 0
 CounterReplies = (cs : List Call) (l : Lent) → Opened l → (k : Key) → SumOf k (itemsOf cs l) none (sum k (itemsOf cs l) [] none)
 
--- NO EXEC IS ACCEPTED WITH A KEY MOVED SINCE ITS WATCH.
-abbrev pub isExec : Control → Bool
-isExec MULTI = false
-isExec EXEC = true
-isExec DISCARD = false
-isExec WATCH = false
-isExec UNWATCH = false
-isExec QUIT = false
-isExec other = false
-
--- the request is an EXEC
-abbrev pub asksExec : Asked → Bool
-asksExec nothing = false
-asksExec broken = false
-asksExec (asks a) = isExec (controlOf (rowOf (nameWord a) .name))
-
--- an EXEC of session i that was answered by an array
+-- NO EXEC IS ACCEPTED WITH A KEY MOVED SINCE ITS WATCH. An EXEC of session i that was answered by an array
 abbrev pub Accepts : ℕ → Call → Outcome → Type 0
 Accepts i (request j s places room) o = (j ≡ i) × (o .number ≡ 0) × (asksExec (askedBy s (readRequest places s)) ≡ true) × (isArray (o .reply) ≡ true)
 Accepts i (grouped ms parts d verdicts) o = ⊥
 
--- k is stale for session i: watched, and with a version that came since. `ds` are the desks before the call
-abbrev pub staleAfter : ℕ → Key → Call → Lent → List Desk → Bool → Bool
+-- k is stale for session i: watched, and with a version that came since. `ds` are the clients before the call
+abbrev pub staleAfter : ℕ → Key → Call → Lent → List Client → Bool → Bool
 staleAfter i k c l ds stale =
-    among (getD (enter c (call c l .outcome) ds .desks) i closed .watched) k
+    among (getD (enter c (call c l .outcome) ds .clients) i closed .watched) k
     && (stale || moved (storeOf l .last) (storeOf (call c l .lent) .versions) k)
 
 -- no EXEC of session i is accepted while k is stale
-abbrev pub NoStaleExec : ℕ → Key → List Call → Lent → List Desk → Bool → Type 0
+abbrev pub NoStaleExec : ℕ → Key → List Call → Lent → List Client → Bool → Type 0
 NoStaleExec i k [] l ds stale = Unit {0}
 NoStaleExec i k (c ∷ cs) l ds stale =
     (stale ≡ true → Accepts i c (call c l .outcome) → ⊥)
-    × NoStaleExec i k cs (call c l .lent) (enter c (call c l .outcome) ds .desks) (staleAfter i k c l ds stale)
+    × NoStaleExec i k cs (call c l .lent) (enter c (call c l .outcome) ds .clients) (staleAfter i k c l ds stale)
 
 -- for any list of calls, session and key
 abbrev pub WatchClaim : Type 0
-WatchClaim = (cs : List Call) (l : Lent) → Opened l → (i : ℕ) (k : Key) → NoStaleExec i k cs l closedDesks false
+WatchClaim = (cs : List Call) (l : Lent) → Opened l → (i : ℕ) (k : Key) → NoStaleExec i k cs l closedClients false
 
--- The same by posting alone, without the store. The keys that an item writes on posting's table
-unfoldable pub itemKeys : Item → Table → List Key
-itemKeys (alone c b) t = keysOf (run (find t) c .1)
-itemKeys (listed l b) t = []
-itemKeys (exec watched q b) t = keysOf (postQueue t q)
-itemKeys (member ws) t = keysOf ws
-
--- the keys that a history writes
-unfoldable pub writtenIn : List Item → Table → List Key
-writtenIn [] t = []
-writtenIn (x ∷ xs) t = itemKeys x t ++ writtenIn xs (post x t)
-
--- k is stale for session i: watched, and written by a call since. `e` is what posting makes of the call
+-- The same by posting alone, without the store: watched, and written by a call since. `e` is what posting makes of the call
 abbrev pub staleIn : ℕ → Key → Entered → Table → Bool → Bool
-staleIn i k e t stale = among (getD (e .desks) i closed .watched) k && (stale || among (writtenIn (e .items) t) k)
+staleIn i k e t stale = among (getD (e .clients) i closed .watched) k && (stale || among (writtenIn (e .items) t) k)
 
 -- no EXEC of session i is accepted while k is stale
-abbrev pub NoStalePosted : ℕ → Key → List Call → List Outcome → List Desk → Table → Bool → Type 0
+abbrev pub NoStalePosted : ℕ → Key → List Call → List Outcome → List Client → Table → Bool → Type 0
 NoStalePosted i k [] os ds t stale = Unit {0}
 NoStalePosted i k (c ∷ cs) [] ds t stale = Unit {0}
 NoStalePosted i k (c ∷ cs) (o ∷ os) ds t stale =
     (stale ≡ true → Accepts i c o → ⊥)
-    × NoStalePosted i k cs os (enter c o ds .desks) (postAll (enter c o ds .items) t) (staleIn i k (enter c o ds) t stale)
+    × NoStalePosted i k cs os (enter c o ds .clients) (postAll (enter c o ds .items) t) (staleIn i k (enter c o ds) t stale)
 
 -- for any list of calls, session and key
 abbrev pub PostedWatchClaim : Type 0
-PostedWatchClaim = (cs : List Call) (l : Lent) → Opened l → (i : ℕ) (k : Key) → NoStalePosted i k cs (outcomes cs l) closedDesks [] false
+PostedWatchClaim = (cs : List Call) (l : Lent) → Opened l → (i : ℕ) (k : Key) → NoStalePosted i k cs (outcomes cs l) closedClients [] false
+
+-- EACH ANSWER TO EXEC HAS ITS CAUSE: a mark gives EXECABORT, a held key written since the first WATCH in force `*-1`, and every other EXEC is
+-- accepted, and replies as posting does on the table of that WATCH. For any list of calls and session
+abbrev pub VerdictClaim : Type 0
+VerdictClaim = (cs : List Call) (l : Lent) → Opened l → (i : ℕ) → VerdictsPosted i cs (outcomes cs l) closedClients [] newTransaction
 
 -- WHAT ONE SESSION HAS QUEUED OR WATCHED ALTERS NO ANSWER TO ANOTHER: an answer, what is left of the store and of the session
 -- depend on the store and that session alone, and a request leaves the other sessions.
@@ -227,18 +194,18 @@ pub record Isolated : Type 0 where
       sessionOf j (request-call i s places room l .lent) ≡ sessionOf j l
 
 -- what a call posts, by its arguments and its answer
-abbrev pub postedBy : Call → Lent → List Desk → List Item
+abbrev pub postedBy : Call → Lent → List Client → List Item
 postedBy c l ds = enter c (call c l .outcome) ds .items
 
 -- posting's queues and watches after a list of calls
-unfoldable pub desksAfter : List Call → Lent → List Desk → List Desk
-desksAfter [] l ds = ds
-desksAfter (c ∷ cs) l ds = desksAfter cs (call c l .lent) (enter c (call c l .outcome) ds .desks)
+unfoldable pub clientsAfter : List Call → Lent → List Client → List Client
+clientsAfter [] l ds = ds
+clientsAfter (c ∷ cs) l ds = clientsAfter cs (call c l .lent) (enter c (call c l .outcome) ds .clients)
 
 -- From an opened store on, a call that posts nothing leaves the store.
 abbrev pub QuietClaim : Type 0
 QuietClaim =
-    (before : List Call) (l : Lent) → Opened l → (c : Call) → postedBy c (final before l) (desksAfter before l closedDesks) ≡ [] →
+    (before : List Call) (l : Lent) → Opened l → (c : Call) → postedBy c (final before l) (clientsAfter before l closedClients) ≡ [] →
     storeOf (call c (final before l) .lent) ≡ storeOf (final before l)
 
 -- the name is that of a command
@@ -259,11 +226,11 @@ asksCommand (asks a) = isCommand (controlOf (rowOf (nameWord a) .name))
 
 -- what posts nothing: inside MULTI all but an accepted EXEC, outside it all but a command, and what returns a number
 pub record Quiet : Type 0 where
-  pub inside : (i : ℕ) (s : Bytes) (places room : ℕ) (o : Outcome) (ds : List Desk) (q : List Args) → getD ds i closed .queue ≡ some q →
+  pub inside : (i : ℕ) (s : Bytes) (places room : ℕ) (o : Outcome) (ds : List Client) (q : List Args) → getD ds i closed .queue ≡ some q →
       (Accepts i (request i s places room) o → ⊥) → enter (request i s places room) o ds .items ≡ []
-  pub outside : (i : ℕ) (s : Bytes) (places room : ℕ) (o : Outcome) (ds : List Desk) → getD ds i closed .queue ≡ none →
+  pub outside : (i : ℕ) (s : Bytes) (places room : ℕ) (o : Outcome) (ds : List Client) → getD ds i closed .queue ≡ none →
       asksCommand (askedBy s (readRequest places s)) ≡ false → enter (request i s places room) o ds .items ≡ []
-  pub numbers : (c : Call) (o : Outcome) (ds : List Desk) → (o .number ≡ 0 → ⊥) → enter c o ds .items ≡ []
+  pub numbers : (c : Call) (o : Outcome) (ds : List Client) → (o .number ≡ 0 → ⊥) → enter c o ds .items ≡ []
 
 -- the call is a request of session i
 abbrev pub isOf : ℕ → Call → Bool
@@ -282,10 +249,10 @@ toOthers i (c ∷ cs) [] = []
 toOthers i (c ∷ cs) (o ∷ os) = cond (isOf i c) (toOthers i cs os) (o ∷ toOthers i cs os)
 
 -- no request of session i posts: it queues and watches, and no EXEC of it is accepted
-abbrev pub PostsNothing : ℕ → List Call → Lent → List Desk → Type 0
+abbrev pub PostsNothing : ℕ → List Call → Lent → List Client → Type 0
 PostsNothing i [] l ds = Unit {0}
 PostsNothing i (c ∷ cs) l ds =
-    (isOf i c ≡ true → postedBy c l ds ≡ []) × PostsNothing i cs (call c l .lent) (enter c (call c l .outcome) ds .desks)
+    (isOf i c ≡ true → postedBy c l ds ≡ []) × PostsNothing i cs (call c l .lent) (enter c (call c l .outcome) ds .clients)
 
 -- the same store and the same sessions, but for what session i has queued or watched
 pub record SameBut (i : ℕ) (l m : Lent) : Type 0 where
@@ -302,7 +269,50 @@ pub record Unaltered (i : ℕ) (cs : List Call) (l m : Lent) : Type 0 where
 abbrev pub IsolationClaim : Type 0
 IsolationClaim =
     (before cs : List Call) (l m : Lent) (i : ℕ) → Opened l → valid m ≡ true → SameBut i (final before l) m →
-    PostsNothing i cs (final before l) (desksAfter before l closedDesks) → Unaltered i cs (final before l) m
+    PostsNothing i cs (final before l) (clientsAfter before l closedClients) → Unaltered i cs (final before l) m
+
+-- THE SAME WHERE SESSION i ALSO POSTS OUTSIDE MULTI, as with WATCH, GET, MULTI. Some item is posted
+abbrev pub anyItem : List Item → Bool
+anyItem [] = false
+anyItem (x ∷ xs) = true
+
+-- all but the requests of session i that post nothing are kept
+abbrev pub isKept : ℕ → Call → List Item → Bool
+isKept i c xs = not (isOf i c) || anyItem xs
+
+-- the calls that are kept
+unfoldable pub keptCalls : ℕ → List Call → List Outcome → List Client → List Call
+keptCalls i [] os ds = []
+keptCalls i (c ∷ cs) [] ds = []
+keptCalls i (c ∷ cs) (o ∷ os) ds =
+    let e = enter c o ds in
+    cond (isKept i c (e .items)) (c ∷ keptCalls i cs os (e .clients)) (keptCalls i cs os (e .clients))
+
+-- the outcomes of those calls
+unfoldable pub keptOutcomes : ℕ → List Call → List Outcome → List Client → List Outcome
+keptOutcomes i [] os ds = []
+keptOutcomes i (c ∷ cs) [] ds = []
+keptOutcomes i (c ∷ cs) (o ∷ os) ds =
+    let e = enter c o ds in
+    cond (isKept i c (e .items)) (o ∷ keptOutcomes i cs os (e .clients)) (keptOutcomes i cs os (e .clients))
+
+-- no EXEC of session i is accepted
+abbrev pub NoneAccepted : ℕ → List Call → List Outcome → Type 0
+NoneAccepted i [] os = Unit {0}
+NoneAccepted i (c ∷ cs) [] = Unit {0}
+NoneAccepted i (c ∷ cs) (o ∷ os) = (Accepts i c o → ⊥) × NoneAccepted i cs os
+
+-- every call that is kept is answered as without the others
+pub record UnalteredUntilExec (i : ℕ) (cs : List Call) (ds : List Client) (l m : Lent) : Type 0 where
+  pub answers : keptOutcomes i cs (outcomes cs l) ds ≡ outcomes (keptCalls i cs (outcomes cs l) ds) m
+  pub left : SameBut i (final cs l) (final (keptCalls i cs (outcomes cs l) ds) m)
+
+-- From an opened store on, what session i has queued or watched alters no answer until its EXEC is accepted, neither to another session nor
+-- to its own commands outside MULTI: `m` is what the calls `before` left, but for session i, which is outside MULTI there.
+abbrev pub UntilExecClaim : Type 0
+UntilExecClaim =
+    (before cs : List Call) (l m : Lent) (i : ℕ) → Opened l → valid m ≡ true → SameBut i (final before l) m → sessionOf i m .queue ≡ none →
+    NoneAccepted i cs (outcomes cs (final before l)) → UnalteredUntilExec i cs (clientsAfter before l closedClients) (final before l) m
 
 -- EVERY CALL LEAVES VALID STATE, so that from an opened store on no call returns 9.
 abbrev pub StaysValid : Type 0
@@ -325,9 +335,11 @@ pub record Demand3Holds : Type 0 where
   pub counterReplies : CounterReplies
   pub watches : WatchClaim
   pub postedWatches : PostedWatchClaim
+  pub verdicts : VerdictClaim
   pub quiet : Quiet
   pub quietCalls : QuietClaim
   pub isolated : Isolated
   pub isolation : IsolationClaim
+  pub untilExec : UntilExecClaim
   pub staysValid : StaysValid
   pub validity : ValidClaim

@@ -3,6 +3,7 @@ pub mod Serve
 pub mod Calls
 pub mod Demand1
 pub mod Posting
+pub mod Verdicts
 pub mod Demand3
 pub mod Made
 pub mod Frames

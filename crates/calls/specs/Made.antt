@@ -13,9 +13,10 @@ use Rattle.memtable.specs.Versions.{table}
 use Rattle.batch.specs.declared.Member.{Member}
 use Rattle.server.specs.declared.Answer.{Answer}
 use Rattle.calls.specs.Serve.{Outcome}
-use Rattle.calls.specs.Calls.{Lent, lentOf, valid, storeOf, withStore, OpenPromise, RequestPromise, GroupPromise, Call, request, grouped}
-use Rattle.calls.specs.Posting.{Item, history, closedDesks, postAll, AllHold}
-use Rattle.calls.specs.Demand3.{Opened, OnlyCounted, textOf, sum, SumOf, NoStaleExec, NoStalePosted, desksAfter, without, toOthers, PostsNothing, SameBut, NoNine}
+use Rattle.calls.specs.Calls.{Lent, lentOf, valid, storeOf, sessionOf, withStore, OpenPromise, RequestPromise, GroupPromise, Call, request, grouped}
+use Rattle.calls.specs.Posting.{Item, Client, history, closedClients, postAll, AllHold}
+use Rattle.calls.specs.Verdicts.{newTransaction, VerdictsPosted}
+use Rattle.calls.specs.Demand3.{Opened, OnlyCounted, textOf, sum, SumOf, NoStaleExec, NoStalePosted, clientsAfter, without, toOthers, PostsNothing, SameBut, keptCalls, keptOutcomes, NoneAccepted, NoNine}
 
 -- WHAT THE CALLER SEES of a request: the reply is in front of the reply buffer
 abbrev pub requestSeen : Answer → Bytes → Outcome
@@ -37,16 +38,17 @@ pub data Made : Lent → List Call → List Outcome → Lent → Type 0 where
 
 -- the items of posting's history, by what the caller saw
 abbrev pub itemsSeen : List Call → List Outcome → List Item
-itemsSeen cs os = history cs os closedDesks
+itemsSeen cs os = history cs os closedClients
 
--- DEMAND 3 of the calls made: the table, the replies, the counters, the watched keys, and validity
+-- DEMAND 3 of the calls made: the table, the replies, the counters, the watched keys, the cause of each answer to EXEC, and validity
 pub record Holds (cs : List Call) (os : List Outcome) (l l′ : Lent) : Type 0 where
   pub tables : table (storeOf l′ .versions) ≡ postAll (itemsSeen cs os) []
   pub replies : AllHold (itemsSeen cs os) []
   pub counters : (k : Key) → OnlyCounted k (itemsSeen cs os) → find (table (storeOf l′ .versions)) k ≡ textOf (sum k (itemsSeen cs os) [] none)
   pub sums : (k : Key) → SumOf k (itemsSeen cs os) none (sum k (itemsSeen cs os) [] none)
-  pub watches : (i : ℕ) (k : Key) → NoStalePosted i k cs os closedDesks [] false
-  pub moved : (i : ℕ) (k : Key) → NoStaleExec i k cs l closedDesks false
+  pub watches : (i : ℕ) (k : Key) → NoStalePosted i k cs os closedClients [] false
+  pub verdicts : (i : ℕ) → VerdictsPosted i cs os closedClients [] newTransaction
+  pub moved : (i : ℕ) (k : Key) → NoStaleExec i k cs l closedClients false
   pub fit : valid l′ ≡ true
   pub no-nine : NoNine os
 
@@ -70,10 +72,22 @@ abbrev pub MadeIsolation : Type 0
 MadeIsolation =
     (l l₁ l₂ m m₂ : Lent) (before cs : List Call) (os₁ os₂ os′ : List Outcome) (i : ℕ)
     → Opened l → Made l before os₁ l₁ → Made l₁ cs os₂ l₂ → valid m ≡ true → SameBut i l₁ m → Made m (without i cs) os′ m₂
-    → PostsNothing i cs l₁ (desksAfter before l closedDesks) → SeenAlike i cs os₂ os′ l₂ m₂
+    → PostsNothing i cs l₁ (clientsAfter before l closedClients) → SeenAlike i cs os₂ os′ l₂ m₂
+
+-- The same where session i also posts outside MULTI: the calls that are kept are made without the others.
+pub record SeenUntilExec (i : ℕ) (cs : List Call) (ds : List Client) (os os′ : List Outcome) (l m : Lent) : Type 0 where
+  pub answers : keptOutcomes i cs os ds ≡ os′
+  pub left : SameBut i l m
+
+abbrev pub MadeUntilExec : Type 0
+MadeUntilExec =
+    (l l₁ l₂ m m₂ : Lent) (before cs : List Call) (os₁ os₂ os′ : List Outcome) (i : ℕ)
+    → Opened l → Made l before os₁ l₁ → Made l₁ cs os₂ l₂ → valid m ≡ true → SameBut i l₁ m → sessionOf i m .queue ≡ none → NoneAccepted i cs os₂
+    → Made m (keptCalls i cs os₂ (clientsAfter before l closedClients)) os′ m₂ → SeenUntilExec i cs (clientsAfter before l closedClients) os₂ os′ l₂ m₂
 
 -- all of it
 pub record MadeHolds : Type 0 where
   pub opens : OpensClaim
   pub claim : MadeClaim
   pub isolation : MadeIsolation
+  pub untilExec : MadeUntilExec

@@ -57,25 +57,25 @@ pub data Item : Type 0 where
   member : List Write → Item
 
 -- For each session a queue, at first closed, and the keys named in a WATCH answered `+OK` and not dropped since.
-pub record Desk : Type 0 where
+pub record Client : Type 0 where
   pub queue : Option (List Args)
   pub watched : List Key
 
 -- a closed queue, and nothing watched
-abbrev pub closed : Desk
+abbrev pub closed : Client
 closed = record { queue = none; watched = [] }
 
--- the desk after a call, and what it adds to the history
+-- the client after a call, and what it adds to the history
 pub record Turn : Type 0 where
-  pub desk : Desk
+  pub client : Client
   pub items : List Item
 
 -- no item
-abbrev pub quietly : Desk → Turn
-quietly d = record { desk = d; items = [] }
+abbrev pub quietly : Client → Turn
+quietly d = record { client = d; items = [] }
 
--- the second desk where the test holds
-abbrev pub onlyIf : Bool → Desk → Desk → Turn
+-- the second client where the test holds
+abbrev pub onlyIf : Bool → Client → Client → Turn
 onlyIf test d new = quietly (cond test new d)
 
 -- a command posted at once
@@ -84,13 +84,13 @@ itemAlone (runs c) b = alone c b
 itemAlone (lists l) b = listed l b
 
 -- an open queue: EXEC answered by an array posts it; `*-1` or `EXECABORT` only close it
-unfoldable pub turnExec : List Args → Bytes → Desk → Turn
+unfoldable pub turnExec : List Args → Bytes → Client → Turn
 turnExec q b d =
-    cond (isArray b) (record { desk = closed; items = exec (d .watched) (map commandOf q) b ∷ [] })
+    cond (isArray b) (record { client = closed; items = exec (d .watched) (map commandOf q) b ∷ [] })
     (onlyIf (isReply NilArray b || isReply execAbort b) d closed)
 
--- a request that did not return a number, by its name and the desk's queue
-unfoldable pub turnBy : Control → Option (List Args) → Args → Bytes → Desk → Turn
+-- a request that did not return a number, by its name and the client's queue
+unfoldable pub turnBy : Control → Option (List Args) → Args → Bytes → Client → Turn
 turnBy MULTI q a b d = onlyIf (isReply ok b) d (record { queue = some []; watched = d .watched })
 turnBy EXEC none a b d = quietly d
 turnBy EXEC (some q) a b d = turnExec q b d
@@ -98,11 +98,11 @@ turnBy DISCARD q a b d = onlyIf (isReply ok b) d closed
 turnBy WATCH q a b d = onlyIf (isReply ok b) d (record { queue = d .queue; watched = d .watched ++ arguments a })
 turnBy UNWATCH q a b d = onlyIf (isReply ok b) d (record { queue = d .queue; watched = [] })
 turnBy QUIT q a b d = quietly closed
-turnBy other none a b d = record { desk = d; items = itemAlone (executedOf a) b ∷ [] }
+turnBy other none a b d = record { client = d; items = itemAlone (executedOf a) b ∷ [] }
 turnBy other (some q) a b d = onlyIf (isReply queuedReply b) d (record { queue = some (q ++ a ∷ []); watched = d .watched })
 
 -- by what was asked; a protocol error closes the queue
-unfoldable pub turnAsked : Asked → Bytes → Desk → Turn
+unfoldable pub turnAsked : Asked → Bytes → Client → Turn
 turnAsked nothing b d = quietly d
 turnAsked broken b d = quietly closed
 turnAsked (asks a) b d = turnBy (controlOf (rowOf (nameWord a) .name)) (d .queue) a b d
@@ -113,38 +113,43 @@ acceptedIn [] vs = []
 acceptedIn (m ∷ ms) [] = []
 acceptedIn (m ∷ ms) (v ∷ vs) = cond (eqb v 0) (member (m .writes) ∷ acceptedIn ms vs) (acceptedIn ms vs)
 
--- the desks after a call, and what it adds to the history
+-- the clients after a call, and what it adds to the history
 pub record Entered : Type 0 where
-  pub desks : List Desk
+  pub clients : List Client
   pub items : List Item
 
 -- a call that returned a number changes nothing
-unfoldable pub enter : Call → Outcome → List Desk → Entered
+unfoldable pub enter : Call → Outcome → List Client → Entered
 enter (request i s places room) o ds = elim (eqb (o .number) 0) [
-  | false ↦ record { desks = ds; items = [] }
+  | false ↦ record { clients = ds; items = [] }
   | true ↦
       let t = turnAsked (askedBy s (readRequest places s)) (o .reply) (getD ds i closed) in
-      record { desks = set ds i (t .desk); items = t .items }
+      record { clients = set ds i (t .client); items = t .items }
 ]
 enter (grouped ms parts d verdicts) o ds = elim (eqb (o .number) 0) [
-  | false ↦ record { desks = ds; items = [] }
-  | true ↦ record { desks = ds; items = acceptedIn (map (pendingOf parts d) ms) (o .verdicts) }
+  | false ↦ record { clients = ds; items = [] }
+  | true ↦ record { clients = ds; items = acceptedIn (map (pendingOf parts d) ms) (o .verdicts) }
 ]
 
 -- the items of a list of calls with their outcomes
-unfoldable pub history : List Call → List Outcome → List Desk → List Item
+unfoldable pub history : List Call → List Outcome → List Client → List Item
 history [] os ds = []
 history (c ∷ cs) [] ds = []
-history (c ∷ cs) (o ∷ os) ds = let e = enter c o ds in e .items ++ history cs os (e .desks)
+history (c ∷ cs) (o ∷ os) ds = let e = enter c o ds in e .items ++ history cs os (e .clients)
 
 -- sixteen closed queues
-unfoldable pub closedDesks : List Desk
-closedDesks = replicate 16 closed
+unfoldable pub closedClients : List Client
+closedClients = replicate 16 closed
 
 -- THE POSTING, on one table. The writes and the table after commands posted one after another
 unfoldable pub postQueue : Table → List Command → List Write
 postQueue t [] = []
 postQueue t (c ∷ cs) = let ws = run (find t) c .1 in ws ++ postQueue (writeAll ws t) cs
+
+-- the reply to each of them
+unfoldable pub postReplies : Table → List Command → List Reply
+postReplies t [] = []
+postReplies t (c ∷ cs) = let e = run (find t) c in e .0 ∷ postReplies (writeAll (e .1) t) cs
 
 -- the table after an item
 unfoldable pub post : Item → Table → Table
@@ -203,11 +208,12 @@ AllAsPosted cov t [] (p ∷ ps) = ⊥
 AllAsPosted cov t (c ∷ cs) [] = ⊥
 AllAsPosted cov t (c ∷ cs) (p ∷ ps) = AsPosted cov (find t) c p × AllAsPosted cov (writeAll (run (find t) c .1) t) cs ps
 
--- the bytes of the reply: an EXEC's are an array of one item for each command
+-- the bytes of the reply: an EXEC's are an array of one item for each command, and equal for all keys where nothing is watched
 abbrev pub Holds : Item → Table → Type 0
 Holds (alone c b) t = b ≡ encode (run (find t) c .0)
 Holds (listed l b) t = b ≡ encode (answerListing t l)
-Holds (exec watched q b) t = (ps : List Reply) × (b ≡ encode (array ps)) × AllAsPosted (covered watched (postQueue t q) q) t q ps
+Holds (exec watched q b) t =
+    (ps : List Reply) × (b ≡ encode (array ps)) × AllAsPosted (covered watched (postQueue t q) q) t q ps × (watched ≡ [] → ps ≡ postReplies t q)
 Holds (member ws) t = Unit {0}
 
 -- every item of a history, each on the table that the one before it left

@@ -42,13 +42,6 @@ pub fn watched_count(words: &[u64]) -> usize
     sessions::word(words, 3)
 }
 
-pub fn queued_count(words: &[u64]) -> usize
-    requires { ⌜ length (now words) ≡ 613 ⌝ }
-    ensures { λ r. ⌜ r ≡ getD (now (words .entry)) 4 0 ⌝ }
-{
-    sessions::word(words, 4)
-}
-
 // Drops queue, watch and mark.
 pub fn clear(words: &mut [u64])
     requires { ⌜ length (now words) ≡ 613 ⌝ }

@@ -15,13 +15,13 @@ use Rattle.writing.proofs.Puts.{Written, nothing, stored, full, done, puts-noth
 use Rattle.resp.specs.declared.utf8.Piece.{Piece}
 use Rattle.resp.specs.declared.utf8.Piece.the-variants.{Whole, Broken}
 use Rattle.resp.specs.Utf8.{between, replacement, lossyFrom, lossy}
-use Rattle.resp.specs.declared.clean.Letters.{Letters}
-use Rattle.resp.specs.declared.clean.Letters.the-variants.{AsSent, Capitals, Small}
+use Rattle.resp.specs.declared.Letters.{Letters}
+use Rattle.resp.specs.declared.Letters.the-variants.{AsSent, Capitals, Small}
 use Rattle.resp.specs.Letters.{upper, lower, letterAs, shownAs}
 use Rattle.resp.specs.Reply.{clean}
-use Rattle.resp.specs.Pieces.{size, shown, PieceAt}
+use Rattle.resp.specs.Pieces.{pieceOf}
 use Rattle.writing.proofs.Lent.{rest}
-use Rattle.resp.proofs.Pieces.{lossy-at, inside-at}
+use Rattle.resp.proofs.Pieces.{size, shown, lossy-at, inside-at}
 
 -- ONE BYTE
 module _ (b : ℕ) where
@@ -110,7 +110,7 @@ module _ {letters : Letters} {text entry out : Bytes} {at : ℕ} {put : Put} (g 
   pub shown-full : put ≡ Full → Puts (map (shownAs letters) (lossy text)) entry Full out
   shown-full told = full-longer (map (shownAs letters) (lossyFrom between (drop at text))) (g .left) (g .puts) told
 
-  module _ (h : at < length text) {p : Piece} (is : PieceAt (rest at text) p) where
+  module _ (h : at < length text) {p : Piece} (is : p ≡ pieceOf (rest at text)) where
     shown-more : {exit : Bytes} {after : Put} (more : Bytes) → more ≡ map (shownAs letters) (shown p (drop at text)) → Adds more put out after exit → Shown letters text (at + size p) entry after exit
     shown-more more e a =
         let behind : Bytes = lossyFrom between (drop (at + size p) text) in

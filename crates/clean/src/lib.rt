@@ -1,5 +1,5 @@
 // Text of simple and error replies: CR and LF become spaces, and what is not UTF-8 becomes U+FFFD.
-use resp::clean::Letters;
+use resp::Letters;
 use resp::utf8;
 use resp::utf8::Piece;
 use writing::Put;

@@ -1,7 +1,7 @@
 -- What a queued command does, from what it means. Assumes nothing.
 use Prim.Native.Nat.{ℕ, _≤_, _<_}
 use native.Mathlib.Omega.{arith}
-use mathlib.Core.Path.{_≡_, refl, sym, ap, _∙_}
+use mathlib.Core.Path.{_≡_, refl, sym, ap, _∙_, subst}
 use mathlib.Core.Bool.{Bool, true, false, cond}
 use mathlib.Core.List.{List, [], _∷_, _++_, map, append-assoc}
 use lib.IntN.{ℤ}
@@ -20,12 +20,12 @@ use Rattle.command.specs.declared.Command.{Command as CodeCommand}
 use Rattle.command.specs.declared.Command.the-variants as command
 use Rattle.command.specs.declared.Executed.{Executed as CodeExecuted}
 use Rattle.command.specs.declared.Executed.the-variants.{Runs, Lists}
-use Rattle.command.specs.Meant.{commandMeant, executedMeant, CommandCounted, Counted, ExecutedIs}
-use Rattle.server.specs.declared.errors.Fixed.{Fixed}
+use Rattle.command.specs.Meant.{commandMeant, executedMeant, InPairs, CommandCounted, Counted, ExecutedIs}
+use Rattle.server.specs.declared.Fixed.{Fixed}
 use Rattle.command.specs.declared.Read.{Read}
 use Rattle.command.specs.declared.Read.the-variants.{Value, Live, Values, Echo, Says, Arity, Unknown, Nothing}
 use Rattle.command.specs.declared.Kind.{Kind}
-use Rattle.command.specs.declared.Kind.the-variants.{Counter, Reads}
+use Rattle.command.specs.declared.Kind.the-variants.{Pairs, Tombstones, Counter, Reads}
 use Rattle.command.specs.Kinds.{kindMeant, kindExecuted, liveReply, readReply, leastRead, pairsEffect, tombstonesEffect, counterEffect, kindEffect, kindChecks, KindCounted, KindIs}
 
 -- A WRONG ARGUMENT COUNT: each row has a count that it refuses, or its name is unknown to `execute`
@@ -158,6 +158,24 @@ kind-count e same = ap Counter same ∙ sym (ap kindMeant e)
 pub kind-says : {c : CodeCommand} {f : Fixed} → c ≡ command.Says f → Reads (Says f) ≡ kindMeant c
 unfolding kindMeant
 kind-says e = sym (ap kindMeant e)
+
+-- THE ARGUMENT COUNT of each kind
+module _ {k : Kind} {count : ℕ} (h : KindCounted k count) where
+  pub pairs-counted : k ≡ Pairs → InPairs count
+  unfolding KindCounted
+  pairs-counted e = subst (λ (x : Kind). KindCounted x count) e h
+
+  pub tombstones-counted : k ≡ Tombstones → 2 ≤ count
+  unfolding KindCounted
+  tombstones-counted e = subst (λ (x : Kind). KindCounted x count) e h
+
+  pub counter-counted : {n : ℤ} → k ≡ Counter n → 2 ≤ count
+  unfolding KindCounted
+  counter-counted e = subst (λ (x : Kind). KindCounted x count) e h
+
+  pub read-counted : {q : Read} → k ≡ Reads q → leastRead q ≤ count
+  unfolding KindCounted
+  read-counted e = subst (λ (x : Kind). KindCounted x count) e h
 
 -- how many arguments a reply needs
 pub least-one : (q : Read) {count : ℕ} → leastRead q ≤ count → 1 ≤ count

@@ -1,6 +1,5 @@
 -- The laws of this crate.
 pub mod AmountLaws
-pub mod ArgumentLaws
 pub mod KindLaws
 pub mod MeaningLaws
 pub mod NameLaws

@@ -12,8 +12,8 @@ use Rattle.key.specs.Bytes.{Bytes, bytes}
 use Rattle.number.specs.declared.Number.{Number}
 use Rattle.number.specs.Number.{intArg}
 use Rattle.server.specs.declared.Name.the-variants.{Scan, Range}
-use Rattle.server.specs.declared.errors.Fixed.{Fixed}
-use Rattle.server.specs.declared.errors.Fixed.the-variants.{NotInteger, Syntax, InvalidCursor, BadLimit}
+use Rattle.server.specs.declared.Fixed.{Fixed}
+use Rattle.server.specs.declared.Fixed.the-variants.{NotInteger, Syntax, InvalidCursor, BadLimit}
 use Rattle.server.specs.Names.{Args, nameWord, arguments, sameName}
 use Rattle.server.specs.Command.{Executed, argument, fixed, notInteger, syntaxError, natural, positive, scanOptions, scanFrom, rangeOptions, rangeLimit, executedAs}
 use Rattle.server.specs.Errors.{fixedReply}

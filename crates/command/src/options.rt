@@ -6,7 +6,8 @@ use crate::amounts;
 use crate::amounts::Amount;
 use crate::arguments;
 use number::integer;
-use server::errors::Fixed;
+use server::Fixed;
+use server::names;
 ghost use Prim.Native.Nat.{_+_, _≤_, _<_};
 ghost use Rattle.server.specs.declared.Name.the-variants.{Scan, Range};
 ghost use Rattle.server.specs.Places.{argumentsAt, PartsIn};
@@ -26,10 +27,10 @@ fn scan_option(input: &[u8], places: &[u64], count: usize, i: usize) -> ScanOpti
     ensures { λ r. ⌜ OptionIs (argumentsAt 0 count (now (places .entry)) (now (input .entry))) i r ⌝ }
 {
     let word = arguments::argument(input, places, count, i);
-    if arguments::is_word(word, b"MATCH") {
+    if names::same(word, b"MATCH") {
         return ScanOption::Match;
     }
-    if arguments::is_word(word, b"COUNT") {
+    if names::same(word, b"COUNT") {
         let value = integer::int_arg(arguments::argument(input, places, count, i + 1));
         let Amount::Is(most) = amounts::positive(value) else {
             return ScanOption::Wrong(Fixed::NotInteger);
@@ -91,7 +92,7 @@ pub fn range(input: &[u8], places: &[u64], count: usize) -> Executed
         return Executed::Lists(Listing::Range);
     }
     if count == 5 {
-        if arguments::is_word(arguments::argument(input, places, count, 3), b"LIMIT") {
+        if names::same(arguments::argument(input, places, count, 3), b"LIMIT") {
             let value = integer::int_arg(arguments::argument(input, places, count, 4));
             let Amount::Is(most) = amounts::natural(value) else {
                 return Executed::Runs(Command::Says(Fixed::BadLimit));

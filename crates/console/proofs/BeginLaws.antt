@@ -6,7 +6,7 @@ use mathlib.Core.Bool.{Bool, true, false, cond, _&&_}
 use mathlib.Core.List.{List, [], _∷_, _++_, append-assoc}
 use mathlib.Core.Option.{Option, none, some}
 use lib.Dec.{leb, ltb, eqb}
-use lib.ListN.{length, take, length-append}
+use lib.ListN.{length, take, set, length-append}
 use borrow.Author.Tests.{leb-true, lt-ltb, le-ltb}
 use Rattle.key.specs.Bytes.{Bytes, part}
 use Rattle.calls.specs.Frames as F
@@ -21,7 +21,7 @@ use Rattle.console.specs.declared.frame.Begun.the-variants.{Answered, Se
 use Rattle.lines.specs.Pieces.{MarkFits, headText, endText, malformedText}
 use Rattle.lines.specs.Line.{givenAs}
 use Rattle.lines.specs.Held.{Memory, countAt, heldAt, slotOf, FrameRead, RestAt, RestKept}
-use Rattle.lines.specs.Rest.{keptOf}
+use Rattle.lines.specs.Rest.{keptOf, heldOf}
 use Rattle.lines.specs.Served.{markAfter}
 use Rattle.console.specs.Page.{Added, Free}
 use Rattle.console.specs.Lines.{refusedText, beginText, begunAs, Begins, markKept, restIn, Ends}
@@ -183,7 +183,7 @@ mark-is mark rest n e = go (leb n 4096) ∙ ap (λ (k : ℕ). cond (leb k 4096) 
     go false = refl
 
 pub line-ended : {i to r : ℕ} {at : Progress} {page page′ held held′ : Bytes} {counts counts′ : List ℕ} {k : Kept} {m : Mark} → Memory counts held → RestAt i (at .from) to → RestKept i (at .from) to counts held k counts′ held′ → m ≡ markKept (at .mark) k → Added (endText (at .replied) m) (at .filled) page r page′ → Ends i to at page counts held r page′ counts′ held′
-line-ended {i} {to} {at = at} {held = held} mem p x e a =
+line-ended {i} {to} {at = at} {held = held} {counts = counts} mem p x e a =
     let size : length (restIn i (at .from) to held) ≡ to - at .from = part-length (i * 8192 + at .from) (to - at .from) held (omega (arith, mem .bytes, p .session, p .order, p .size)) in
     let same = e ∙ ap (markKept (at .mark)) (x .answer) ∙ mark-is (at .mark) (restIn i (at .from) to held) (to - at .from) size in
-    record { added = rw same at a; rests = x .rests }
+    record { added = rw same at a; rests = x .rests; words = x .words ∙ ap (λ (q : Kept). set counts i (heldOf q)) (x .answer) }

@@ -74,12 +74,11 @@ over-is {i} {from₀} {filled₀} {held} {page} {page′} {replied₀} {l} {l′
     go false e y = y
     go true e y = let z : _≡_ {A = ℕ} 0 1 = cc in absurd (omega arith)
 
-pub turns-served : {i : ℕ} {held w page w′ page′ : Bytes} {at at′ : Progress} {l l′ : Lent} → Turns i held w at page l w′ at′ page′ l′ → valid l ≡ true
+pub turns-served : {i : ℕ} {held w page w′ page′ : Bytes} {at at′ : Progress} {l l′ : Lent} → Turns i held w at page l w′ at′ page′ l′
     → FrameServed i (drop (at .from) held) l (at .replied) (outputOf w (at .filled) page) (at′ .mark) (drop (at′ .from) held) l′ (at′ .replied) (outputOf w′ (at′ .filled) page′)
-turns-served (over w page page′ at at′ l l′ x e) ok = all-behind w (over-is x e .served ok)
-turns-served {held = held} (again w w₁ w′ page page₁ page₂ page′ at at₁ at₂ at′ l l₁ l′ x e f g o more) ok =
-    let y = some-behind w (paused-is x e .served ok) in
-    serving-last y (served-from (turns-served more (y .fit)) (ap (λ (k : ℕ). drop k held) f) g o)
+turns-served (over w page page′ at at′ l l′ x e) = all-behind w (over-is x e .served)
+turns-served {held = held} (again w w₁ w′ page page₁ page₂ page′ at at₁ at₂ at′ l l₁ l′ x e f g o more) =
+    serving-last (some-behind w (paused-is x e .served)) (served-from (turns-served more) (ap (λ (k : ℕ). drop k held) f) g o)
 
 -- THE REST of a frame is behind the bytes that are done with
 drop-front : (k n : ℕ) (l : Bytes) → drop k (take n l) ≡ take (n - k) (drop k l)
@@ -164,7 +163,7 @@ serve-is {line} {counts = counts} {i = i} {to} {n} b = go (F.given line) refl (b
     go none e r = let z : _≡_ {A = ℕ} 0 1 = cc in absurd (omega arith)
     go (some g) e r = by-test g (ltb (g .session) 16) refl e r
 
-module _ {line page page₁ held held₁ held′ page′ w w′ : Bytes} {counts counts′ : List ℕ} {filled i to n filled′ : ℕ} {l l′ : Lent} (ok : valid l ≡ true) (b : Begins line filled page counts held (Serve i to n) page₁ held₁) (f : FrameCalls line i to n w page₁ l counts held₁ l′ counts′ held′ w′ filled′ page′) where
+module _ {line page page₁ held held₁ held′ page′ w w′ : Bytes} {counts counts′ : List ℕ} {filled i to n filled′ : ℕ} {l l′ : Lent} (b : Begins line filled page counts held (Serve i to n) page₁ held₁) (f : FrameCalls line i to n w page₁ l counts held₁ l′ counts′ held′ w′ filled′ page′) where
   it : ServeIs line counts i to
   it = serve-is b
 
@@ -174,7 +173,7 @@ module _ {line page page₁ held held₁ held′ page′ w w′ : Bytes} {counts
   all-served : FrameServed i (part (i * 8192) to held₁) l false (outputOf w filled page ++ headText i) (f .at₁ .mark) (drop (f .at₁ .from) (part (i * 8192) to held₁)) l′ (f .at₁ .replied) (outputOf (f .w₂) (f .at₁ .filled) (f .page₃))
   all-served =
       let head : Added (headText i) filled page n page₁ = rw (ap beginText (serve-is b .given) ∙ serve-is b .text) at (b .added) in
-      served-from (turns-served (f .turns) ok) (ap (λ (k : ℕ). drop k (part (i * 8192) to held₁)) (f .from-start)) (f .no-reply) (f .put-begin ∙ put-behind w head)
+      served-from (turns-served (f .turns)) (ap (λ (k : ℕ). drop k (part (i * 8192) to held₁)) (f .from-start)) (f .no-reply) (f .put-begin ∙ put-behind w head)
 
   by-frame : Answered (some (record { session = i; input = serve-is b .input })) (consoleIn l counts held) (outputOf w filled page) (record { state = stateIn l′; rests = set (restsIn counts held) i (restOf (drop (f .at₁ .from) (part (i * 8192) to held₁))) }) (outputOf (f .w₂) (f .at₁ .filled) (f .page₃) ++ endText (f .at₁ .replied) (markAfter (f .at₁ .mark) (drop (f .at₁ .from) (part (i * 8192) to held₁))))
   unfolding consoleIn
@@ -200,12 +199,12 @@ module _ {line page page₁ held held₁ held′ page′ w w′ : Bytes} {counts
       record { out = end-is ∙ y .out; console = y .console ∙ ap (λ (r : List Bytes). record { state = stateIn l′; rests = r }) (sym rests-are) }
 
 -- THE LINE: its calls put exactly the line of the definition, with LF, and leave the console of the definition
-pub line-answered : {line held page held′ w w′ page′ : Bytes} {counts counts′ : List ℕ} {filled filled′ : ℕ} {l l′ : Lent} → valid l ≡ true → LineCalls line l counts held w filled page l′ counts′ held′ w′ filled′ page′
+pub line-answered : {line held page held′ w w′ page′ : Bytes} {counts counts′ : List ℕ} {filled filled′ : ℕ} {l l′ : Lent} → LineCalls line l counts held w filled page l′ counts′ held′ w′ filled′ page′
     → LineAnswered line (consoleIn l counts held) (outputOf w filled page) (consoleIn l′ counts′ held′) (outputOf w′ filled′ page′)
-line-answered {held = held} {w = w} {counts = counts} {l = l} ok (answered n page′ held′ b) = at-once l counts held w b
-line-answered ok (served i to n page₁ held₁ l′ counts′ held′ w′ filled′ page′ b f) = in-turns ok b f
+line-answered {held = held} {w = w} {counts = counts} {l = l} (answered n page′ held′ b) = at-once l counts held w b
+line-answered (served i to n page₁ held₁ l′ counts′ held′ w′ filled′ page′ b f) = in-turns b f
 
 -- the lent state stays valid
 pub line-fits : {line held page held′ w w′ page′ : Bytes} {counts counts′ : List ℕ} {filled filled′ : ℕ} {l l′ : Lent} → valid l ≡ true → LineCalls line l counts held w filled page l′ counts′ held′ w′ filled′ page′ → valid l′ ≡ true
 line-fits ok (answered n page′ held′ b) = ok
-line-fits ok (served i to n page₁ held₁ l′ counts′ held′ w′ filled′ page′ b f) = turns-served (f .turns) ok .fit
+line-fits ok (served i to n page₁ held₁ l′ counts′ held′ w′ filled′ page′ b f) = turns-served (f .turns) .fit

@@ -4,12 +4,12 @@ use native.Mathlib.Omega.{arith}
 use mathlib.Core.Path.{_≡_, sym, ap, _∙_}
 use mathlib.Core.Bool.{Bool, true, false}
 use mathlib.Core.List.{[], _∷_, _++_, append-assoc}
-use lib.ListN.{length, take, drop, length-append, length-drop}
+use lib.ListN.{length, take, drop, replicate, length-append, length-drop}
 use lib.Seq.{take-at, length-take-le}
 use borrow.Rule.Slice.PartMut.{same-len-mid}
 use Rattle.key.specs.Bytes.{Bytes}
 use Rattle.number.specs.Decimal.{digits}
-use Rattle.verdict.proofs.Lengths.{digits-few}
+use Rattle.number.proofs.Decimals.{digits-few}
 use Rattle.writing.specs.declared.Put.{Put}
 use Rattle.writing.specs.declared.Put.the-variants.{Wrote, Full}
 use Rattle.writing.specs.Puts.{Puts}
@@ -19,7 +19,7 @@ use Rattle.calls.specs.Frames.{hex}
 use Rattle.lines.specs.declared.pieces.Mark.{Mark}
 use Rattle.lines.specs.declared.pieces.Mark.the-variants.{NoMark, Number, Dropped}
 use Rattle.lines.specs.Pieces.{MarkFits, headText, numberText, markOrDash, endText, malformedText}
-use Rattle.console.specs.Page.{Added, ReplyFits, Free}
+use Rattle.console.specs.Page.{Added, ReplyFits, Moved, Free}
 use Rattle.lines.proofs.AnswerLaws.{hex-length}
 
 module _ {text last : Bytes} (page : Bytes) (filled : ℕ) {put : Put} (p : Puts text (rest filled page) put last) where
@@ -48,6 +48,10 @@ module _ {page last reply : Bytes} {count filled : ℕ} {put : Put} (f : ReplyFi
 
   pub reply-never : put ≡ Full → Added (hex (take count reply)) filled page filled (with-rest filled page last)
   reply-never e = absurd (not-full page filled p (omega (arith, f .room, hex-length (take count reply), length-take-le count reply (f .there))) e)
+
+pub reply-moved : {count filled filled′ : ℕ} {reply front page page′ : Bytes} → ReplyFits count reply filled page → Added (hex (take count reply)) filled page filled′ page′
+    → front ≡ replicate (length (take count reply)) 0 → Moved count reply filled page filled′ (front ++ drop count reply) page′
+reply-moved {count} {reply = reply} f a e = record { added = a; cleared = ap (λ (l : Bytes). l ++ drop count reply) (e ∙ ap (λ (k : ℕ). replicate k 0) (length-take-le count reply (f .there))) }
 
 -- SHORT TEXTS: at most 32 bytes
 module _ {text page last : Bytes} {filled : ℕ} {put : Put} (room : Free 32 filled page) (p : Puts text (rest filled page) put last) where

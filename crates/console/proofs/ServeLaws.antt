@@ -5,7 +5,7 @@ use mathlib.Core.List.{List}
 use mathlib.Core.Path.{_≡_}
 use lib.ListN.{length}
 use Rattle.calls.specs.Calls.{lentOf}
-use Rattle.console.specs.Steps.{Stepping}
+use Rattle.console.specs.Steps.{Fit, Stepping}
 
 -- what is lent keeps its length
 pub record Sizes (g₀ p₀ w₀ b₀ sw₀ sb₀ r₀ g p w b sw sb r : List ℕ) : Type 0 where
@@ -24,5 +24,6 @@ pub record InLoop (i : ℕ) (held g₀ p₀ w₀ b₀ sw₀ sb₀ r₀ : List �
   pub free : filled₀ + 65536 ≤ length g₀
   pub places : length p ≡ 2048
   pub room : length r ≡ 32768
+  pub fit : Fit (lentOf w b sw sb) r
   pub sizes : Sizes g₀ p₀ w₀ b₀ sw₀ sb₀ r₀ g p w b sw sb r
   pub stepping : Stepping i held from₀ replied₀ filled₀ g₀ (lentOf w₀ b₀ sw₀ sb₀) from replied filled g (lentOf w b sw sb)

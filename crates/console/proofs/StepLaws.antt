@@ -8,38 +8,47 @@ use mathlib.Core.List.{List, [], _++_}
 use mir.Val.{Fits}
 use mir.Syntax.{w64}
 use lib.Dec.{eqb, leb, ltb}
-use lib.ListN.{length, take, drop, length-drop, drop-of-length-le}
+use lib.ListN.{length, take, drop, replicate, length-drop, length-replicate, drop-of-length-le}
 use lib.Seq.{drop-length, drop-drop}
 use borrow.Author.Tests.{le-leb, lt-leb, lt-ltb, le-ltb, ltb-true, ltb-false, leb-true, leb-false, eq-eqb, ne-eqb, eqb-true, eqb-false}
 use Rattle.key.specs.Bytes.{Bytes}
-use Rattle.resp.specs.Request.{readRequest}
+use Rattle.resp.specs.Request.{readRequest, spanned}
 use Rattle.server.specs.declared.Answer.{Answer}
-use Rattle.calls.specs.Calls.{Lent, valid, RequestPromise}
+use Rattle.calls.specs.Calls.{Lent, lentOf, valid, RequestPromise}
 use Rattle.calls.specs.Frames.{closes, hex}
 use Rattle.lines.specs.declared.pieces.Mark.{Mark}
 use Rattle.lines.specs.declared.pieces.Mark.the-variants.{NoMark, Number}
 use Rattle.console.specs.declared.step.Step.{Step}
 use Rattle.console.specs.declared.step.Step.the-variants.{Refused, Waits, Used}
 use Rattle.lines.specs.Pieces.{MarkFits}
+use Rattle.lines.specs.Quit.{quits, firstSpan, Drops}
 use Rattle.lines.specs.Served.{FrameServed, orSome}
-use Rattle.console.specs.Steps.{doneWith, stepOf, repliedAfter, StepPromise, Stepping, Reached, SomeServed, Serves}
+use Rattle.console.specs.Steps.{doneWith, stepOf, repliedAfter, Fit, StepPromise, Stepping, Reached, SomeServed, Serves}
 use Rattle.console.specs.Page.{Added, ReplyFits}
 use Rattle.writing.proofs.Lent.{rest}
 use Rattle.lines.proofs.LineLaws.{lent-is}
-use Rattle.lines.proofs.ServedLaws.{serving-start, serving-end, serving-last, serving-more, serving-number, serving-waits, serving-used, told-some, told-none, reply-short}
+use Rattle.lines.proofs.ServedLaws.{serving-start, serving-end, serving-last, serving-more, serving-number, serving-waits, serving-used, told-some, told-none, reply-short, left-fit, cleared-again, cleared-number, cleared-waits}
+use Rattle.serving.specs.Serving.{ReadyAmong}
 
 -- WHAT IS DONE WITH
 pub done-all : (s : Bytes) {used : ℕ} → length s ≤ used → length s ≡ doneWith s used
 unfolding doneWith
 done-all s {used} h = rw (le-leb (length s) used h)
 
-pub done-closed : (s : Bytes) {used : ℕ} {b : Bool} → used < length s → b ≡ closes s (readRequest 1024 s) → b ≡ true → length s ≡ doneWith s used
+by-test : (s : Bytes) (used : ℕ) {b : Bool} → used < length s → closes s (readRequest 1024 s) ≡ b → cond b (length s) used ≡ doneWith s used
 unfolding doneWith
-done-closed s {used} h e t = rw (lt-leb (length s) used h, ← e, t)
+by-test s used h e = rw (lt-leb (length s) used h, e)
 
-pub done-used : (s : Bytes) {used : ℕ} {b : Bool} → used < length s → b ≡ closes s (readRequest 1024 s) → b ≡ false → used ≡ doneWith s used
-unfolding doneWith
-done-used s {used} h e t = rw (lt-leb (length s) used h, ← e, t)
+module _ (s : Bytes) {used reply : ℕ} {table : List ℕ} (x : Drops s (readRequest 1024 s) used reply table) (h : used < length s) where
+  pub done-empty : reply ≡ 0 → used ≡ doneWith s used
+  done-empty z = by-test s used h (x .unanswered h z)
+
+  module _ {b : Bool} (nz : reply ≡ 0 → ⊥) (e : b ≡ quits (spanned s (firstSpan table))) where
+    pub done-closed : b ≡ true → length s ≡ doneWith s used
+    done-closed t = by-test s used h (sym (e ∙ x .named h nz) ∙ t)
+
+    pub done-used : b ≡ false → used ≡ doneWith s used
+    done-used t = by-test s used h (sym (e ∙ x .named h nz) ∙ t)
 
 -- THE STEP of an answer
 pub step-number : (s : Bytes) (a : Answer) → 0 < a .number → Refused (a .number) ≡ stepOf s a
@@ -115,15 +124,23 @@ done-within s used nz h = go (leb (length s) used) (closes s (readRequest 1024 s
     go false true t = (h, omega arith)
     go false false t = (positive used nz, omega (arith, leb-false (length s) used t))
 
+-- THE REPLY BUFFER, all zero
+zeros : {b : Bytes} (n : ℕ) → b ≡ replicate n 0 → b ≡ replicate (length b) 0
+zeros {b} n e = e ∙ ap (λ (k : ℕ). replicate k 0) (sym (ap length e ∙ length-replicate n 0))
+
+-- session i is lent
+pub step-ready : {i : ℕ} {w : List ℕ} {b : Bytes} {sw : List ℕ} {sb out : Bytes} → i < 16 → Fit (lentOf w b sw sb) out → ReadyAmong i w b sw sb out
+step-ready h f = record { below = h; fit = f .fit; cleared = f .cleared }
+
 -- THE LOOP over the bytes of a frame
-pub stepping-start : (i : ℕ) (held : Bytes) (from₀ : ℕ) (replied₀ : Bool) (filled₀ : ℕ) (page : Bytes) (l : Lent) {table : List ℕ} {buffer : Bytes} → Serves i held from₀ filled₀ page table buffer → Stepping i held from₀ replied₀ filled₀ page l from₀ replied₀ filled₀ page l
-stepping-start i held from₀ replied₀ filled₀ page l x = record {
+pub stepping-start : (i : ℕ) (held : Bytes) (from₀ : ℕ) (replied₀ : Bool) (filled₀ : ℕ) (page : Bytes) (l : Lent) {table : List ℕ} {buffer : Bytes} → Serves i held from₀ filled₀ page table buffer → Fit l buffer → Stepping i held from₀ replied₀ filled₀ page l from₀ replied₀ filled₀ page l
+stepping-start i held from₀ replied₀ filled₀ page l x f = record {
   within = x .start;
   onward = omega arith;
   ahead = λ h. absurd (omega arith);
   inside = omega (arith, x .free);
   size = refl;
-  served = λ ok. serving-start i (drop from₀ held) l replied₀ (take filled₀ page) ok;
+  served = serving-start i (drop from₀ held) l replied₀ (take filled₀ page) (f .fit);
 }
 
 module _ {i from filled : ℕ} {held page page′ : Bytes} {from₀ filled₀ : ℕ} {replied₀ : Bool} {l l′ : Lent} {replied : Bool} (x : Stepping i held from₀ replied₀ filled₀ page l from replied filled page′ l′) where
@@ -138,22 +155,25 @@ module _ {i from filled : ℕ} {held page page′ : Bytes} {from₀ filled₀ : 
     reached = record { ahead = x .ahead (omega (arith, x .size, x .inside)); served = x .served };
   }
 
-  over : (from′ : ℕ) (mark : Mark) (l″ : Lent) → MarkFits mark → from′ ≤ length held → (valid l′ ≡ true → FrameServed i (drop from held) l′ replied (take filled page′) mark (drop from′ held) l″ replied (take filled page′)) → SomeServed i held from₀ replied₀ filled₀ page l (record { from = from′; replied = replied; filled = filled; full = false; mark = mark }) page′ l″
+  over : (from′ : ℕ) (mark : Mark) (l″ : Lent) → MarkFits mark → from′ ≤ length held → FrameServed i (drop from held) l′ replied (take filled page′) mark (drop from′ held) l″ replied (take filled page′) → SomeServed i held from₀ replied₀ filled₀ page l (record { from = from′; replied = replied; filled = filled; full = false; mark = mark }) page′ l″
   unfolding Reached
   over from′ mark l″ fits h f = record {
     within = h;
     inside = x .inside;
     size = x .size;
     mark = fits;
-    reached = record { served = λ ok. let y = x .served ok in serving-last y (f (y .fit)) };
+    reached = record { served = serving-last (x .served) f };
   }
+
+  ok : valid l′ ≡ true
+  ok = x .served .fit
 
   -- no bytes are left
   pub stepping-end : i < 16 → length held ≤ from → SomeServed i held from₀ replied₀ filled₀ page l (record { from = from; replied = replied; filled = filled; full = false; mark = NoMark }) page′ l′
   unfolding MarkFits
   stepping-end h all =
       let none : drop from held ≡ [] = drop-of-length-le held {i = from} all in
-      over from NoMark l′ tt (x .within) (λ ok. rw none (serving-end l′ replied (take filled page′) ok h))
+      over from NoMark l′ tt (x .within) (rw none (serving-end l′ replied (take filled page′) ok h))
 
   -- one more step
   module _ {buffer buffer′ : Bytes} {l″ : Lent} {r : Step} (below : i < 16) (more : from < length held) (room : length buffer ≡ 32768) (p : StepPromise i (rest from held) buffer l′ r buffer′ l″) where
@@ -169,14 +189,24 @@ module _ {i from filled : ℕ} {held page page′ : Bytes} {from₀ filled₀ : 
         let q = at-drop in
         let t = refused-told (drop from held) (q .answer) n (sym e ∙ q .is) in
         over (length held) (Number n) l″ (omega (arith, fits .fits)) (omega arith)
-        (λ ok. rw (drop-length held) (rw (t .0) at (serving-number below ok some-bytes room (q .call) replied (take filled page′) (t .1))))
+        (rw (drop-length held) (rw (t .0) at (serving-number below ok some-bytes room (q .call) replied (take filled page′) (t .1))))
 
     pub stepping-waits : r ≡ Waits → SomeServed i held from₀ replied₀ filled₀ page l (record { from = from; replied = replied; filled = filled; full = false; mark = NoMark }) page′ l″
     unfolding MarkFits
     stepping-waits e =
         let q = at-drop in
         let t = waits-told (drop from held) (q .answer) (sym e ∙ q .is) in
-        over from NoMark l″ tt (x .within) (λ ok. serving-waits below ok some-bytes room (q .call) replied (take filled page′) (t .0) (t .1))
+        over from NoMark l″ tt (x .within) (serving-waits below ok some-bytes room (q .call) replied (take filled page′) (t .0) (t .1))
+
+    -- what is lent afterwards is valid, and the reply buffer is cleared
+    fit-with : {b : Bytes} → b ≡ replicate (length buffer) 0 → Fit l″ b
+    fit-with e = record { fit = left-fit below ok some-bytes room (at-drop .call); cleared = zeros (length buffer) e }
+
+    pub fit-refused : {n : ℕ} → r ≡ Refused n → Fit l″ buffer′
+    fit-refused {n} e = fit-with (cleared-number below ok some-bytes room (at-drop .call) (refused-told (drop from held) (at-drop .answer) n (sym e ∙ at-drop .is) .1))
+
+    pub fit-waits : r ≡ Waits → Fit l″ buffer′
+    fit-waits e = fit-with (cleared-waits below ok some-bytes room (at-drop .call) (waits-told (drop from held) (at-drop .answer) (sym e ∙ at-drop .is) .1))
 
     module _ {k n : ℕ} (e : r ≡ Used k n) where
       used : UsedTold (drop from held) (at-drop .answer) k n
@@ -198,6 +228,9 @@ module _ {i from filled : ℕ} {held page page′ : Bytes} {from₀ filled₀ : 
           reply-within : n ≤ length buffer
           reply-within = omega (arith, used .reply, reply-short (at-drop .call) same)
 
+      pub fit-used : {b : Bytes} → length buffer′ ≡ length buffer → b ≡ replicate n 0 ++ drop n buffer′ → Fit l″ b
+      fit-used same c = fit-with (cleared-again below ok some-bytes room (at-drop .call) same (rw (used .reply) c))
+
       left-is : drop (from + k) held ≡ cond (closes (drop from held) (readRequest 1024 (drop from held))) [] (drop (at-drop .answer .used) (drop from held))
       left-is = sym (drop-drop k from held) ∙ ap (λ (j : ℕ). drop j (drop from held)) (sym (used .is)) ∙ left-behind (drop from held) (at-drop .answer .used)
 
@@ -209,17 +242,16 @@ module _ {i from filled : ℕ} {held page page′ : Bytes} {from₀ filled₀ : 
         ahead = λ h. omega (arith, x .onward, step-forward);
         inside = omega (arith, a .within, x .size);
         size = a .size ∙ x .size;
-        served = λ ok.
-            let y = x .served ok in
-            serving-more y (serving-used below (y .fit) some-bytes room (at-drop .call) (used .number) (used .some-used) left-is replied (take filled page′)
-            (told ∙ after-is (y .fit) (decLe 1 n)) (a .front ∙ ap (λ (m : ℕ). take filled page′ ++ hex (take m buffer′)) (sym (used .reply))));
+        served =
+            serving-more (x .served) (serving-used below ok some-bytes room (at-drop .call) (used .number) (used .some-used) left-is replied (take filled page′)
+            (told ∙ after-is (decLe 1 n)) (a .front ∙ ap (λ (m : ℕ). take filled page′ ++ hex (take m buffer′)) (sym (used .reply))));
       }
         where
-          after-is : valid l′ ≡ true → Dec (1 ≤ n) → repliedAfter replied n ≡ orSome replied (take (at-drop .answer .reply) buffer′)
-          after-is ok (yes h) =
+          after-is : Dec (1 ≤ n) → repliedAfter replied n ≡ orSome replied (take (at-drop .answer .reply) buffer′)
+          after-is (yes h) =
               let some-reply : 0 < n = omega arith in
               rw (lt-ltb 0 n some-reply) (told-some below ok some-bytes room (at-drop .call) (used .number) (used .some-used) left-is replied (omega (arith, used .reply)))
-          after-is ok (no h) =
+          after-is (no h) =
               let none : n ≤ 0 = omega arith in
               rw (le-ltb 0 n none) (told-none below ok some-bytes room (at-drop .call) (used .number) (used .some-used) left-is replied (omega (arith, used .reply)))
 

@@ -17,7 +17,7 @@ use Rattle.console.specs.declared.frame.Begun.{Begun}
 use Rattle.console.specs.declared.frame.Begun.the-variants.{Answered, Serve}
 use Rattle.lines.specs.Pieces.{headText, endText, malformedText}
 use Rattle.lines.specs.Held.{countAt, heldAt, restsIn}
-use Rattle.lines.specs.Rest.{restOf}
+use Rattle.lines.specs.Rest.{keptOf, heldOf, restOf}
 use Rattle.lines.specs.Served.{markAfter}
 use Rattle.console.specs.Page.{Added}
 
@@ -58,7 +58,8 @@ markKept mark TooLong = Dropped
 abbrev pub restIn : ℕ → ℕ → ℕ → Bytes → Bytes
 restIn i from to held = part (i * 8192 + from) (to - from) held
 
--- THE CONTRACT of ending the line of a frame: the page, and what the sessions hold
+-- THE CONTRACT of ending the line of a frame: the page, what the sessions hold, and their counts
 pub record Ends (i to : ℕ) (at : Progress) (page : Bytes) (counts : List ℕ) (held : Bytes) (r : ℕ) (page′ : Bytes) (counts′ : List ℕ) (held′ : Bytes) : Type 0 where
   pub added : Added (endText (at .replied) (markAfter (at .mark) (restIn i (at .from) to held))) (at .filled) page r page′
   pub rests : restsIn counts′ held′ ≡ set (restsIn counts held) i (restOf (restIn i (at .from) to held))
+  pub words : counts′ ≡ set counts i (heldOf (keptOf (to - at .from)))

@@ -2,8 +2,9 @@
 use Prim.Native.Nat.{ℕ, _+_, _*_, _≤_}
 use mathlib.Core.List.{_++_}
 use mathlib.Core.Path.{_≡_}
-use lib.ListN.{length, take}
+use lib.ListN.{length, take, drop, replicate}
 use Rattle.key.specs.Bytes.{Bytes}
+use Rattle.calls.specs.Frames.{hex}
 
 -- THE CONTRACT of a writer: `text` stands behind the `filled` bytes that were in use, and `filled′` are in use afterwards
 pub record Added (text : Bytes) (filled : ℕ) (page : Bytes) (filled′ : ℕ) (page′ : Bytes) : Type 0 where
@@ -16,6 +17,11 @@ pub record Added (text : Bytes) (filled : ℕ) (page : Bytes) (filled′ : ℕ) 
 pub record ReplyFits (count : ℕ) (reply : Bytes) (filled : ℕ) (page : Bytes) : Type 0 where
   pub there : count ≤ length reply
   pub room : filled + count * 2 ≤ length page
+
+-- the first `count` bytes of a reply, moved to the page as hexadecimal: zeros take their place
+pub record Moved (count : ℕ) (reply : Bytes) (filled : ℕ) (page : Bytes) (filled′ : ℕ) (reply′ page′ : Bytes) : Type 0 where
+  pub added : Added (hex (take count reply)) filled page filled′ page′
+  pub cleared : reply′ ≡ replicate count 0 ++ drop count reply
 
 -- n bytes of the page are free
 pub record Free (n filled : ℕ) (page : Bytes) : Type 0 where

@@ -4,7 +4,7 @@ use mathlib.Core.Bool.{Bool, true, false, cond}
 use mathlib.Core.List.{List}
 use mathlib.Core.Path.{_≡_}
 use lib.Dec.{eqb, leb, ltb}
-use lib.ListN.{length, take, drop}
+use lib.ListN.{length, take, drop, replicate}
 use Rattle.key.specs.Bytes.{Bytes}
 use Rattle.resp.specs.Request.{readRequest}
 use Rattle.server.specs.declared.Answer.{Answer}
@@ -24,6 +24,11 @@ doneWith s used = cond (leb (length s) used) (length s) (cond (closes s (readReq
 unfoldable pub stepOf : Bytes → Answer → Step
 stepOf s a = cond (ltb 0 (a .number)) (Refused (a .number)) (cond (eqb (a .used) 0) Waits (Used (doneWith s (a .used)) (a .reply)))
 
+-- what is lent between two requests: valid memory, and a cleared reply buffer
+pub record Fit (l : Lent) (buffer : Bytes) : Type 0 where
+  pub fit : valid l ≡ true
+  pub cleared : buffer ≡ replicate (length buffer) 0
+
 -- THE CONTRACT of a step: a request call with 1,024 places, and the step that its answer makes
 pub record StepPromise (i : ℕ) (s buffer : Bytes) (l : Lent) (r : Step) (buffer′ : Bytes) (l′ : Lent) : Type 0 where
   pub answer : Answer
@@ -41,16 +46,16 @@ pub record Stepping (i : ℕ) (held : Bytes) (from₀ : ℕ) (replied₀ : Bool)
   pub ahead : filled₀ < filled → from₀ < from
   pub inside : filled ≤ length page
   pub size : length page′ ≡ length page
-  pub served : valid l ≡ true → Serving i (drop from₀ held) l replied₀ (take filled₀ page) (drop from held) l′ replied (take filled page′)
+  pub served : Serving i (drop from₀ held) l replied₀ (take filled₀ page) (drop from held) l′ replied (take filled page′)
 
 -- the page is full before the frame is over: some requests were served
 pub record Paused (i : ℕ) (held : Bytes) (from₀ : ℕ) (replied₀ : Bool) (filled₀ : ℕ) (page : Bytes) (l : Lent) (r : Progress) (page′ : Bytes) (l′ : Lent) : Type 0 where
   pub ahead : from₀ < r .from
-  pub served : valid l ≡ true → Serving i (drop from₀ held) l replied₀ (take filled₀ page) (drop (r .from) held) l′ (r .replied) (take (r .filled) page′)
+  pub served : Serving i (drop from₀ held) l replied₀ (take filled₀ page) (drop (r .from) held) l′ (r .replied) (take (r .filled) page′)
 
 -- the frame is over
 pub record Over (i : ℕ) (held : Bytes) (from₀ : ℕ) (replied₀ : Bool) (filled₀ : ℕ) (page : Bytes) (l : Lent) (r : Progress) (page′ : Bytes) (l′ : Lent) : Type 0 where
-  pub served : valid l ≡ true → FrameServed i (drop from₀ held) l replied₀ (take filled₀ page) (r .mark) (drop (r .from) held) l′ (r .replied) (take (r .filled) page′)
+  pub served : FrameServed i (drop from₀ held) l replied₀ (take filled₀ page) (r .mark) (drop (r .from) held) l′ (r .replied) (take (r .filled) page′)
 
 -- by whether the page is full
 unfoldable pub Reached : Bool → ℕ → Bytes → ℕ → Bool → ℕ → Bytes → Lent → Progress → Bytes → Lent → Type 0

@@ -1,4 +1,4 @@
-// The lines of the program `frames`: a line read, the pieces of an answer, and the rest that a session keeps.
+// The work of the program `frames` on a page: a line begun and ended, and the requests of a frame served.
 pub mod frame;
 pub mod serve;
 pub mod step;

@@ -1,16 +1,16 @@
-// The requests of a frame, one call for each; the hexadecimal of their replies is put into a page of output.
+// The requests of a frame, one by one, on memory that is valid between them; the hexadecimal of their replies is put into a page of output.
 use crate::step;
 use crate::step::Step;
 use lines::pieces;
 use lines::pieces::Mark;
-use registry::request;
 use writing::Put;
 ghost use mathlib.Core.Path.{_≡_};
 ghost use lib.ListN.{length, take};
 ghost use Rattle.calls.specs.Calls.{lentOf};
 ghost use Rattle.calls.specs.Frames.{hex};
-ghost use Rattle.console.specs.Page.{Added, ReplyFits};
-ghost use Rattle.console.specs.Steps.{StepPromise, Serves, SomeServed};
+ghost use Rattle.serving.specs.Serving.{ReadyAmong};
+ghost use Rattle.console.specs.Page.{Added, ReplyFits, Moved};
+ghost use Rattle.console.specs.Steps.{Fit, StepPromise, Serves, SomeServed};
 
 // A page takes one more reply where so much of it is free: the hexadecimal of 32,768 bytes.
 const REPLY_TEXT: usize = 65536;
@@ -25,7 +25,7 @@ pub struct Progress {
     pub mark: Mark,
 }
 
-// One request call on the bytes that are left.
+// One request on the bytes that are left.
 fn take_step(
     session: usize,
     input: &[u8],
@@ -37,9 +37,19 @@ fn take_step(
     reply: &mut [u8],
 ) -> Step
     requires { ⌜ length (now places) ≡ 2048 ⌝ }
+    requires { ⌜ ReadyAmong session (now words) (now bytes) (now swords) (now sbytes) (now reply) ⌝ }
     ensures { λ r. ⌜ StepPromise session (now (input .entry)) (now (reply .entry)) (lentOf (now (words .entry)) (now (bytes .entry)) (now (swords .entry)) (now (sbytes .entry))) r (now (reply .exit)) (lentOf (now (words .exit)) (now (bytes .exit)) (now (swords .exit)) (now (sbytes .exit))) ⌝ }
 {
-    let answer = request::request(session, input, places, words, bytes, swords, sbytes, reply);
+    let answer = serving::serve_session(
+        session,
+        input,
+        places,
+        words,
+        bytes,
+        swords,
+        sbytes,
+        reply,
+    );
     step::step_of(input, places, answer)
 }
 
@@ -52,6 +62,16 @@ fn put_reply(page: &mut [u8], filled: usize, reply: &[u8], count: usize) -> usiz
         return filled;
     };
     filled + n
+}
+
+// Puts the reply and sets its bytes to zero, so that the reply buffer is all zero again.
+fn move_reply(page: &mut [u8], filled: usize, reply: &mut [u8], count: usize) -> usize
+    requires { ⌜ ReplyFits count (now reply) filled (now page) ⌝ }
+    ensures { λ r. ⌜ Moved count (now (reply .entry)) filled (now (page .entry)) r (now (reply .exit)) (now (page .exit)) ⌝ }
+{
+    let at = put_reply(page, filled, reply, count);
+    writing::clear(&mut reply[..count]);
+    at
 }
 
 // Serves the requests of a frame from `begun.from` on until it is over or the page is full.
@@ -68,6 +88,8 @@ pub fn serve_some(
     reply: &mut [u8],
 ) -> Progress
     requires { ⌜ Serves session (now held) (begun .from) (begun .filled) (now page) (now places) (now reply) ⌝ }
+    requires { ⌜ Fit (lentOf (now words) (now bytes) (now swords) (now sbytes)) (now reply) ⌝ }
+    ensures { λ _. ⌜ Fit (lentOf (now (words .exit)) (now (bytes .exit)) (now (swords .exit)) (now (sbytes .exit))) (now (reply .exit)) ⌝ }
     ensures { λ r. ⌜ SomeServed session (now (held .entry)) (begun .from) (begun .replied) (begun .filled) (now (page .entry)) (lentOf (now (words .entry)) (now (bytes .entry)) (now (swords .entry)) (now (sbytes .entry))) r (now (page .exit)) (lentOf (now (words .exit)) (now (bytes .exit)) (now (swords .exit)) (now (sbytes .exit))) ⌝ }
 {
     let mut from = begun.from;
@@ -110,7 +132,7 @@ pub fn serve_some(
                 mark: Mark::NoMark,
             },
             Step::Used(used, count) => {
-                filled = put_reply(page, filled, reply, count);
+                filled = move_reply(page, filled, reply, count);
                 replied = step::replied_after(replied, count);
                 from += used;
             }

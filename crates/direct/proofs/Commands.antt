@@ -1,18 +1,18 @@
 -- The commands that write, from what their steps answer. Assumes nothing.
-use Prim.Native.Nat.{ℕ, zero, suc, _+_, _-_, _*_, _^_, _≤_, _<_}
-use native.Mathlib.Nat.{add-assoc, add-zero}
+use Prim.Native.Nat.{ℕ, _+_, _-_, _*_, _^_, _≤_, _<_}
+use native.Mathlib.Nat.{add-zero}
 use native.Mathlib.Omega.{arith}
 use mathlib.Core.Path.{_≡_, refl, sym, ap, _∙_, subst}
 use mathlib.Core.Bool.{true}
-use mathlib.Core.List.{List, [], _∷_, _++_, map}
+use mathlib.Core.List.{List, [], _∷_, _++_}
 use mathlib.Core.Option.{some}
-use lib.ListN.{length, getD, take, drop, replicate, length-map}
+use lib.ListN.{length, take, drop, replicate}
 use lib.Seq.{take-at}
 use lib.Signed.{mag}
-use Rattle.key.proofs.Bytes.{length-part}
 use Rattle.key.specs.Bytes.{Bytes, total}
 use Rattle.key.specs.Keys.{Key}
 use Rattle.number.specs.Decimal.{decimal}
+use Rattle.number.proofs.Decimals.{decimal-few}
 use Rattle.writing.specs.declared.Put.{Put}
 use Rattle.writing.specs.declared.Put.the-variants.{Wrote, Full}
 use Rattle.writing.specs.Puts.{Puts, Adds}
@@ -30,58 +30,21 @@ use Rattle.number.specs.declared.Number.{Number}
 use Rattle.number.specs.declared.Number.the-variants.{Int, Bad}
 use Rattle.number.specs.Number.{numberOf}
 use Rattle.reading.proofs.Counters.{raised-bad, raised-over, raised-to}
-use Rattle.server.specs.declared.errors.Fixed.the-variants.{Ok, NotInteger, Overflow}
+use Rattle.server.specs.declared.Fixed.the-variants.{Ok, NotInteger, Overflow}
 use Rattle.verdict.specs.Reading.{lastReader, LiveIs}
-use Rattle.server.specs.Command.{Effect, put, pairsOf, live, held, raised}
+use Rattle.server.specs.Command.{Effect, put, live, held, raised}
 use Rattle.server.specs.Errors.{fixedReply}
-use Rattle.server.specs.Places.{argumentsAt, lengthsAt, PartsIn}
-use Rattle.server.proofs.PlaceLaws.{arguments-count}
-use Rattle.verdict.specs.Writes.{argumentIn, tombstonesAt, pairsAt, RoomForAll, HeaderIn, verdictLeft, verdictAnswer}
+use Rattle.server.specs.Places.{argumentsAt, lengthsAt, tombstonesAt, pairsAt, PartsIn}
+use Rattle.server.proofs.PlaceLaws.{arguments-count, tombstones-count, tombstones-size, pairs-count, pairs-size}
+use Rattle.verdict.specs.Writes.{RoomForAll, HeaderIn, verdictLeft, verdictAnswer}
 use Rattle.answer.specs.Answers.{putAnswer}
 use Rattle.verdict.specs.Served.{bufferAfter, Runs, Admitted, deletion, counted, integerText, AdmittedText, RunsText}
 use Rattle.verdict.proofs.Writes.{pair-room, pair-words, pair-bytes}
 use Rattle.answer.proofs.Finish.{Cleared}
-use Rattle.verdict.proofs.Lengths.{decimal-few}
 use Rattle.verdict.proofs.Served.{verdict-is, accepted-room, runs-written, runs-refused, runs-quiet, answer-accepted}
 
 pub header-in : {w b : List ℕ} → Valid w b → HeaderIn w
 header-in v = record { header-in = omega (arith, v .words-hold); count-fits = v .count-fits; used-fits = v .used-fits }
-
--- SIZES OF THE WRITES
-argument-long : {p : List ℕ} {s : Bytes} {count : ℕ} → PartsIn p s count → (k : ℕ) → k < count → length (argumentIn p s k) ≡ getD p (2 * k + 1) 0
-argument-long {p} {s} q k h = length-part (getD p (2 * k) 0) (getD p (2 * k + 1) 0) s (q .inside k h)
-
-pub tombstones-count : (from n : ℕ) (p : List ℕ) (s : Bytes) → length (tombstonesAt from n p s) ≡ n
-unfolding tombstonesAt
-tombstones-count from n p s = simp length-map (arguments-count from n p s)
-
-pub tombstones-size : {p : List ℕ} {s : Bytes} {count : ℕ} (q : PartsIn p s count) (from n : ℕ) → from + n ≤ count
-    → writesSize (tombstonesAt from n p s) ≡ total (lengthsAt from n p)
-unfolding tombstonesAt argumentsAt lengthsAt writesSize total
-tombstones-size q from zero h = refl
-tombstones-size {p} {s} q from (suc n) h =
-    let z : length (argumentIn p s from) + 0 ≡ length (argumentIn p s from) = omega arith in
-    λ i. (z ∙ argument-long q from (omega arith)) i + tombstones-size q (suc from) n (omega arith) i
-
-pub pairs-count : (from n : ℕ) (p : List ℕ) (s : Bytes) → length (pairsAt from n p s) ≡ n
-unfolding pairsAt argumentsAt pairsOf
-pairs-count from zero p s = let e : 2 * 0 ≡ 0 = omega arith in ap (λ (m : ℕ). length (map put (pairsOf (argumentsAt from m p s)))) e
-pairs-count from (suc n) p s =
-    let e : 2 * suc n ≡ suc (suc (2 * n)) = omega arith in
-    ap (λ (m : ℕ). length (map put (pairsOf (argumentsAt from m p s)))) e ∙ ap suc (pairs-count (suc (suc from)) n p s)
-
-pub pairs-size : {p : List ℕ} {s : Bytes} {count : ℕ} (q : PartsIn p s count) (from n : ℕ) → from + 2 * n ≤ count
-    → writesSize (pairsAt from n p s) ≡ total (lengthsAt from (2 * n) p)
-unfolding pairsAt argumentsAt lengthsAt pairsOf writesSize total
-pairs-size {p} {s} q from zero h =
-    let e : 2 * 0 ≡ 0 = omega arith in
-    ap (λ (m : ℕ). writesSize (map put (pairsOf (argumentsAt from m p s)))) e ∙ sym (ap (λ (m : ℕ). total (lengthsAt from m p)) e)
-pairs-size {p} {s} q from (suc n) h =
-    let e : 2 * suc n ≡ suc (suc (2 * n)) = omega arith in
-    ap (λ (m : ℕ). writesSize (map put (pairsOf (argumentsAt from m p s)))) e
-    ∙ (λ i. argument-long q from (omega arith) i + argument-long q (suc from) (omega arith) i + pairs-size q (suc (suc from)) n (omega arith) i)
-    ∙ add-assoc (getD p (2 * from + 1) 0) (getD p (2 * suc from + 1) 0) (total (lengthsAt (suc (suc from)) (2 * n) p))
-    ∙ sym (ap (λ (m : ℕ). total (lengthsAt from m p)) e)
 
 -- what was admitted, and then committed
 module _ {p : Reply} {ws : List Write} {used : ℕ} {out : Bytes} {w b : List ℕ} {r : Answer} {out′ : Bytes} (a : Admitted (p, ws) used out w b r out′) where
@@ -112,11 +75,11 @@ pub admits-pairs : (p : List ℕ) (s : Bytes) (pairs used : ℕ) (w b : List ℕ
     → Puts (encode (fixedReply Ok)) out put mid → free ≡ mostBytesWord w - usedWord w
     → left ≡ bytesLeft free (total (lengthsAt 1 (1 + 2 * pairs - 1) p)) → v ≡ verdictLeft w pairs left
     → r ≡ verdictAnswer v put used → out′ ≡ bufferAfter v mid → Valid w b → PartsIn p s (1 + 2 * pairs) → out ≡ replicate (length out) 0
-    → Admitted (ok, pairsAt 1 pairs p s) used out w b r out′
+    → Admitted (ok, pairsAt 1 (2 * pairs) p s) used out w b r out′
 unfolding fixedReply
 admits-pairs p s pairs used w b puts free-is left-is v-is r-is o-is valid q c =
     let n : 1 + 2 * pairs - 1 ≡ 2 * pairs = omega arith in
-    admits (ok, pairsAt 1 pairs p s) w b used pairs puts (sym (pairs-count 1 pairs p s))
+    admits (ok, pairsAt 1 (2 * pairs) p s) w b used pairs puts (sym (pairs-count 1 pairs p s))
     (left-is ∙ (λ z. bytesLeft (free-is z) ((ap (λ (m : ℕ). total (lengthsAt 1 m p)) n ∙ sym (pairs-size q 1 pairs (omega arith))) z)))
     v-is r-is o-is valid c
 

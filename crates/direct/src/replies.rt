@@ -1,7 +1,7 @@
 // The commands outside MULTI that write nothing: the reply is put, and the answer is made of it.
 use encode::reply;
 use server::Answer;
-use server::errors::Fixed;
+use server::Fixed;
 use verdict::read;
 use verdict::room;
 ghost use mathlib.Core.Path.{_≡_};

@@ -3,7 +3,7 @@ use crate::replies;
 use number::Number;
 use number::integer;
 use server::Answer;
-use server::errors::Fixed;
+use server::Fixed;
 use store::open;
 use verdict::commit;
 use verdict::read;
@@ -18,8 +18,7 @@ ghost use Rattle.memtable.specs.Layout.{lastWord};
 ghost use Rattle.memtable.specs.Rows.{Valid};
 ghost use Rattle.server.specs.Command.{held, raised};
 ghost use Rattle.verdict.specs.Reading.{lastReader};
-ghost use Rattle.server.specs.Places.{PartsIn};
-ghost use Rattle.verdict.specs.Writes.{pairsAt};
+ghost use Rattle.server.specs.Places.{pairsAt, PartsIn};
 ghost use Rattle.verdict.specs.Served.{Runs, Admitted, deletion, counted, integerText, AdmittedText, RunsText};
 
 // SET and MSET before their commit: `pairs` keys and values in turn, from place 1 on.
@@ -35,7 +34,7 @@ fn admit_pairs(
     requires { ⌜ PartsIn (now places) (now input) (1 + 2 * pairs) ⌝ }
     requires { ⌜ Valid (now words) (now bytes) ⌝ }
     requires { ⌜ now out ≡ replicate (length (now out)) 0 ⌝ }
-    ensures { λ r. ⌜ Admitted (ok, pairsAt 1 pairs (now (places .entry)) (now (input .entry))) used (now (out .entry)) (now (words .entry)) (now (bytes .entry)) r (now (out .exit)) ⌝ }
+    ensures { λ r. ⌜ Admitted (ok, pairsAt 1 (2 * pairs) (now (places .entry)) (now (input .entry))) used (now (out .entry)) (now (words .entry)) (now (bytes .entry)) r (now (out .exit)) ⌝ }
 {
     let put = errors::put_fixed(out, Fixed::Ok);
     let free = room::free_bytes(words);
@@ -57,7 +56,7 @@ pub fn run_pairs(
     requires { ⌜ PartsIn (now places) (now input) (1 + 2 * pairs) ⌝ }
     requires { ⌜ Valid (now words) (now bytes) ⌝ }
     requires { ⌜ now out ≡ replicate (length (now out)) 0 ⌝ }
-    ensures { λ r. ⌜ Runs (ok, pairsAt 1 pairs (now (places .entry)) (now (input .entry))) used (now (out .entry)) (now (words .entry)) (now (bytes .entry)) r (now (out .exit)) (now (words .exit)) (now (bytes .exit)) ⌝ }
+    ensures { λ r. ⌜ Runs (ok, pairsAt 1 (2 * pairs) (now (places .entry)) (now (input .entry))) used (now (out .entry)) (now (words .entry)) (now (bytes .entry)) r (now (out .exit)) (now (words .exit)) (now (bytes .exit)) ⌝ }
 {
     let answer = admit_pairs(input, places, pairs, used, words, bytes, out);
     if answer.number == 0 {

@@ -12,7 +12,7 @@ use Rattle.number.specs.Decimal.{digits, decimal}
 use Rattle.writing.specs.declared.Put.{Put}
 use Rattle.writing.specs.declared.Put.the-variants.{Full}
 use Rattle.writing.specs.Puts.{Puts, Adds}
-use Rattle.writing.proofs.Puts.{then-puts, full-longer, same-text, same-added, Follows, follows-none, follows-more, then-follows}
+use Rattle.writing.proofs.Puts.{then-puts, full-longer, same-text, same-added, Follows, follows-none, follows-more, then-follows, length-kept}
 use Rattle.resp.specs.Reply.{Reply, Integer, BulkString, clean, crlf, head, countItems, items, array, encode, encodeAll}
 
 -- A LINE: its mark, its body, its end
@@ -54,6 +54,10 @@ listed-more {rest = rest} r g a = record {
   left = g .left ∙ sym (append-assoc (g .written) (encode r) (encodeAll (items rest)));
   follows = follows-more (g .follows) a refl;
 }
+
+-- and the buffer is as long as it was
+pub listed-length : {whole rest : List Reply} {text start entry out : Bytes} {put after : Put} → Puts text start put entry → Listed whole rest put entry after out → length out ≡ length start
+listed-length p g = length-kept (then-follows p (g .follows))
 
 counted : (rs : List Reply) → countItems (items rs) ≡ length rs
 unfolding countItems items

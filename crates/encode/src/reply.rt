@@ -1,6 +1,6 @@
 // A writer for each kind of reply, at the front of the buffer that it is lent.
 use decimal::digits;
-use resp::clean::Letters;
+use resp::Letters;
 use writing::Put;
 ghost use mathlib.Core.List.{_∷_, _++_, map};
 ghost use Rattle.writing.specs.Puts.{Puts, Adds};

@@ -1,7 +1,7 @@
 // The replies that hang on no stored value: fixed ones, and the errors that quote a name. A `then_` form
 // writes behind what was put.
-use resp::clean::Letters;
-use server::errors::Fixed;
+use resp::Letters;
+use server::Fixed;
 use writing::Put;
 ghost use Rattle.writing.specs.Puts.{Puts, Adds};
 ghost use Rattle.resp.specs.Reply.{encode};
@@ -81,14 +81,6 @@ pub fn put_not_queueable(out: &mut [u8], word: &[u8]) -> Put
     let opened = writing::put_bytes(out, b"-ERR '");
     let quoted = clean::then_clean_lossy(out, opened, word, Letters::Capitals);
     writing::then_bytes(out, quoted, b"' can't be used inside MULTI\r\n")
-}
-
-pub fn then_not_queueable(out: &mut [u8], put: Put, word: &[u8]) -> Put
-    ensures { λ r. ⌜ Adds (encode (notQueueable (now (word .entry)))) put (now (out .entry)) r (now (out .exit)) ⌝ }
-{
-    let at = writing::place(put, out.len());
-    let next = put_not_queueable(&mut out[at..], word);
-    writing::joined(out, put, next)
 }
 
 // The error for a wrong argument count of the command `word`, in small letters.

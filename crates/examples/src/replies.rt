@@ -4,8 +4,8 @@ use crate::records;
 use encode::reply;
 use number::Number;
 use number::integer;
-use resp::clean::Letters;
-use server::errors::Fixed;
+use resp::Letters;
+use server::Fixed;
 use writing::Put;
 
 fn sum(a: Number, b: Number) -> Number {

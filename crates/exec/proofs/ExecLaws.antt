@@ -1,12 +1,11 @@
 -- EXEC of a session, from its parts: the mark, the watched keys, the queue, and the verdict. Assumes nothing.
-use Prim.Native.Nat.{ℕ, zero, suc, _+_}
-use native.Mathlib.Omega.{arith}
+use Prim.Native.Nat.{ℕ, zero, suc}
 use mathlib.Core.Path.{_≡_, refl, sym, ap, _∙_, subst}
 use mathlib.Core.Bool.{Bool, true, false, cond, _||_}
-use mathlib.Core.List.{List, [], _∷_, _++_, map}
+use mathlib.Core.List.{List, _++_, map}
 use mathlib.Core.Option.{Option, none, some}
 use lib.Dec.{leb, eqb}
-use lib.ListN.{length, getD, take, replicate}
+use lib.ListN.{length, getD, take, replicate, length-map}
 use lib.Seq.{length-take-le}
 use Rattle.key.specs.Bytes.{Bytes, _and_, part, total}
 use Rattle.key.specs.Keys.{Key}
@@ -14,13 +13,12 @@ use Rattle.key.proofs.Bytes.{and-left, and-right}
 use Rattle.writing.specs.declared.Put.{Put}
 use Rattle.writing.specs.Puts.{Puts}
 use Rattle.resp.specs.Reply.{NilArray, array, head, encode}
-use Rattle.memtable.specs.Table.{Write}
 use Rattle.memtable.specs.Versions.{Store, moved, commit}
 use Rattle.memtable.specs.Layout.{storeIn}
 use Rattle.memtable.specs.Rows.{Valid, versionsIn}
 use Rattle.batch.specs.Group.{anyKey, hasRoom, hasSequences}
 use Rattle.server.specs.declared.Answer.{Answer}
-use Rattle.server.specs.declared.errors.Fixed.the-variants.{ExecAbort}
+use Rattle.server.specs.declared.Fixed.the-variants.{ExecAbort}
 use Rattle.server.specs.Names.{Args}
 use Rattle.server.specs.Command.{Command, commandOf}
 use Rattle.server.specs.Errors.{fixedReply}
@@ -29,6 +27,7 @@ use Rattle.server.specs.Sessions.{keysIn, queueIn, sessionFrom, watchFrom, yes?
 use Rattle.server.specs.Held.{Held}
 use Rattle.server.specs.Lent.{OneSession}
 use Rattle.server.specs.Finish.{finish}
+use Rattle.server.proofs.LayoutLaws.{flag-zero}
 use Rattle.server.proofs.SessionLaws.{ranBy, execute-failed}
 use Rattle.sessions.proofs.Kept.{held-by-tests, keys-held, queue-count}
 use Rattle.own.specs.Own.{ownWrites}
@@ -129,16 +128,12 @@ pub exec-ready : (last : ℕ) (s : List ℕ) (sb : Bytes) (w b : List ℕ) (out 
 exec-ready last s sb w b out o ok v z f-is f-no at t-is t-no = record {
   held = held-by-tests last s sb o ok;
   positive = positive-counts last s sb ok;
-  unmarked = go (getD s 1 0) (sym f-is ∙ f-no);
+  unmarked = flag-zero (getD s 1 0) (sym f-is ∙ f-no);
   reads = at;
   unmoved = sym t-is ∙ t-no;
   valid = v;
   cleared = z;
 }
-  where
-    go : (n : ℕ) → yes? n ≡ false → n ≡ 0
-    go zero e = refl
-    go (suc n) e = let x : _≡_ {A = ℕ} 0 1 = cc in absurd (omega arith)
 
 -- AFTER THE QUEUE
 concluded-is : (q : List Args) (st : Store) (s : Session) → s .failed ≡ false → execute q st s ≡ concluded (hasMoved q st s) (array (ranBy q st s .replies)) st s (ended q st s .writes)
@@ -152,10 +147,6 @@ concluded-is q st s f = go (hasMoved q st s) refl (hasRoom st (ended q st s .wri
     go false m false e n g = execute-no-room q st s f m e ∙ sym (rw (m, e))
     go false m true e false g = execute-no-sequence q st s f m e g ∙ sym (rw (m, e, g))
     go false m true e true g = execute-accepted q st s f m e g ∙ sym (rw (m, e, g))
-
-length-commands : (q : List Args) → length (map commandOf q) ≡ length q
-length-commands [] = refl
-length-commands (a ∷ q) = ap suc (length-commands q)
 
 module _ (s : List ℕ) (sb : Bytes) (w b : List ℕ) (seq used : ℕ) (out : Bytes) (x : ExecReady s sb w b seq out)
     {p′ : List ℕ} {d₀ d₁ : Bytes} {in-use : ℕ} (l : LaidOut s sb d₀ p′ d₁ in-use) {own own′ : List ℕ} {d₂ mid : Bytes} {a : Walked}
@@ -171,7 +162,7 @@ module _ (s : List ℕ) (sb : Bytes) (w b : List ℕ) (seq used : ℕ) (out : By
   reply-is : head 42 (getD s 4 0) ++ advanceAll seq (versionsIn w b) (commandsIn s p′ (take in-use d₁)) begun .replies
       ≡ encode (array (ranBy (queueIn s sb) (storeIn w b) (sessionFrom s sb) .replies))
   reply-is =
-      (λ z. head 42 (sym (length-commands (queueIn s sb) ∙ queue-count (x .held)) z) ++ progress-is z .replies)
+      (λ z. head 42 (sym (length-map (queueIn s sb) commandOf ∙ queue-count (x .held)) z) ++ progress-is z .replies)
       ∙ sym (replies-are (queueIn s sb) (storeIn w b) (sessionFrom s sb))
 
   pub exec-concluded : {out′ : Bytes} {w′ b′ s′ : List ℕ} {r : Answer} → Concludes (a .conflict) (ownWrites own′ (take (a .used) d₂) (a .rows)) (a .put) used w b s mid w′ b′ s′ out′ r

@@ -4,7 +4,7 @@ use crate::layout;
 use crate::watched;
 use inside::queued;
 use server::Answer;
-use server::errors::Fixed;
+use server::Fixed;
 ghost use mathlib.Core.Path.{_≡_};
 ghost use mathlib.Core.Bool.{true};
 ghost use Prim.Native.Nat.{_≤_};

@@ -10,9 +10,11 @@ use registry::open;
 ghost use Prim.Native.Nat.{_+_, _<_, _≤_};
 ghost use mathlib.Core.Path.{_≡_};
 ghost use lib.ListN.{length};
+ghost use Rattle.calls.specs.Calls.{lentOf};
+ghost use Rattle.console.specs.Steps.{Fit};
 ghost use Rattle.frames.specs.Bounds.{Served, Within};
 
-// The longest line of the form has 8,195 bytes: of a longer one 8,196 are kept, and it is answered `?`.
+// The longest line of the form has 8,195 bytes: of a longer one 8,196 are kept at most, and it is answered `?`.
 const LINE: usize = 8196;
 
 const PART: usize = 65536;
@@ -66,6 +68,8 @@ fn serve_turns(
     requires { ⌜ to ≤ 8192 ⌝ }
     requires { ⌜ filled ≤ 131072 ⌝ }
     requires { ⌜ length (now held) ≡ 131072 ⌝ }
+    requires { ⌜ Fit (lentOf (now words) (now bytes) (now swords) (now sbytes)) (now reply) ⌝ }
+    ensures { λ _. ⌜ Fit (lentOf (now (words .exit)) (now (bytes .exit)) (now (swords .exit)) (now (sbytes .exit))) (now (reply .exit)) ⌝ }
     ensures { λ r. ⌜ Served to r ⌝ }
 {
     let start = session * 8192;
@@ -119,6 +123,8 @@ fn answer_line(
 ) -> usize
     requires { ⌜ len ≤ length (now line) ⌝ }
     requires { ⌜ filled ≤ 131072 ⌝ }
+    requires { ⌜ Fit (lentOf (now words) (now bytes) (now swords) (now sbytes)) (now reply) ⌝ }
+    ensures { λ _. ⌜ Fit (lentOf (now (words .exit)) (now (bytes .exit)) (now (swords .exit)) (now (sbytes .exit))) (now (reply .exit)) ⌝ }
     ensures { λ r. ⌜ r ≤ 131072 ⌝ }
 {
     let room = make_room(page, filled, 64);
@@ -152,9 +158,44 @@ fn answer_line(
     }
 }
 
-// Takes one byte of input: LF ends the line at hand, and any other is kept behind it.
-fn take_byte(
-    byte: u8,
+// The place of the first LF from `from` on, or `got`.
+fn line_end(part: &[u8], from: usize, got: usize) -> usize
+    requires { ⌜ from ≤ got ⌝ }
+    requires { ⌜ got ≤ length (now part) ⌝ }
+    ensures { λ r. ⌜ from ≤ r ⌝ }
+    ensures { λ r. ⌜ r ≤ got ⌝ }
+{
+    let mut i = from;
+    while i < got {
+        if part[i] == 10 {
+            return i;
+        }
+        i += 1;
+    }
+    got
+}
+
+// Keeps a piece of a line behind the `len` bytes kept of it, as far as there is room.
+fn keep_piece(piece: &[u8], len: usize, line: &mut [u8; LINE]) -> usize
+    requires { ⌜ len ≤ 8196 ⌝ }
+    ensures { λ r. ⌜ r ≤ 8196 ⌝ }
+{
+    let mut end = len;
+    let mut i = 0;
+    while i < piece.len() {
+        if end == LINE {
+            return end;
+        }
+        line[end] = piece[i];
+        end += 1;
+        i += 1;
+    }
+    end
+}
+
+// Answers a line, given its last piece; a line of which nothing is kept is not copied.
+fn end_line(
+    piece: &[u8],
     at: Cursor,
     line: &mut [u8; LINE],
     page: &mut [u8; PAGE],
@@ -168,13 +209,15 @@ fn take_byte(
     reply: &mut [u8; 32768],
 ) -> Cursor
     requires { ⌜ Within at ⌝ }
+    requires { ⌜ Fit (lentOf (now words) (now bytes) (now swords) (now sbytes)) (now reply) ⌝ }
+    ensures { λ _. ⌜ Fit (lentOf (now (words .exit)) (now (bytes .exit)) (now (swords .exit)) (now (sbytes .exit))) (now (reply .exit)) ⌝ }
     ensures { λ r. ⌜ Within r ⌝ }
 {
     let len = at.len;
-    if byte == 10 {
+    if len == 0 {
         let filled = answer_line(
-            line,
-            len,
+            piece,
+            piece.len(),
             at.filled,
             page,
             counts,
@@ -188,17 +231,25 @@ fn take_byte(
         );
         return Cursor { len: 0, filled };
     }
-    if len < LINE {
-        line[len] = byte;
-        return Cursor {
-            len: len + 1,
-            filled: at.filled,
-        };
-    }
-    at
+    let end = keep_piece(piece, len, line);
+    let filled = answer_line(
+        line,
+        end,
+        at.filled,
+        page,
+        counts,
+        held,
+        places,
+        words,
+        bytes,
+        swords,
+        sbytes,
+        reply,
+    );
+    Cursor { len: 0, filled }
 }
 
-// Answers the lines that end in the first `got` bytes of a part of the input.
+// Answers the lines that end in the first `got` bytes of a part of the input, and keeps what is behind them.
 fn answer_part(
     part: &[u8],
     got: usize,
@@ -216,13 +267,16 @@ fn answer_part(
 ) -> Cursor
     requires { ⌜ got ≤ length (now part) ⌝ }
     requires { ⌜ Within begun ⌝ }
+    requires { ⌜ Fit (lentOf (now words) (now bytes) (now swords) (now sbytes)) (now reply) ⌝ }
+    ensures { λ _. ⌜ Fit (lentOf (now (words .exit)) (now (bytes .exit)) (now (swords .exit)) (now (sbytes .exit))) (now (reply .exit)) ⌝ }
     ensures { λ r. ⌜ Within r ⌝ }
 {
     let mut at = begun;
     let mut i = 0;
-    while i < got {
-        at = take_byte(
-            part[i],
+    let mut end = line_end(part, i, got);
+    while end < got {
+        at = end_line(
+            &part[i..end],
             at,
             line,
             page,
@@ -235,9 +289,14 @@ fn answer_part(
             sbytes,
             reply,
         );
-        i += 1;
+        i = end + 1;
+        end = line_end(part, i, got);
     }
-    at
+    let len = keep_piece(&part[i..got], at.len, line);
+    Cursor {
+        len,
+        filled: at.filled,
+    }
 }
 
 // No turn is left where nothing was read.
@@ -264,7 +323,9 @@ fn answer_all(
     swords: &mut [u64; SESSION_WORDS],
     sbytes: &mut [u8; SESSION_BYTES],
     reply: &mut [u8; 32768],
-) {
+)
+    requires { ⌜ Fit (lentOf (now words) (now bytes) (now swords) (now sbytes)) (now reply) ⌝ }
+{
     let mut at = Cursor { len: 0, filled: 0 };
     let mut turns: u64 = 18446744073709551615;
     while 0 < turns {
@@ -291,11 +352,12 @@ fn answer_all(
             filled: make_room(page, next.filled, PAGE),
         };
     }
-    if 0 < at.len {
-        let last = take_byte(
-            10,
-            at,
+    let len = at.len;
+    if 0 < len {
+        let filled = answer_line(
             line,
+            len,
+            at.filled,
             page,
             counts,
             held,
@@ -306,7 +368,7 @@ fn answer_all(
             sbytes,
             reply,
         );
-        make_room(page, last.filled, PAGE);
+        make_room(page, filled, PAGE);
     }
 }
 
@@ -322,7 +384,9 @@ fn main() {
     let mut swords = [0u64; SESSION_WORDS];
     let mut sbytes = [0u8; SESSION_BYTES];
     let mut reply = [0u8; 32768];
-    open::open(&mut words, &bytes, 0, 1024, 32768);
+    if open::open(&mut words, &bytes, 0, 1024, 32768) != 0 {
+        return;
+    }
     answer_all(
         &mut part,
         &mut line,

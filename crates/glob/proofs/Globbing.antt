@@ -11,10 +11,10 @@ use lib.Dec.{eqb}
 use lib.ListN.{length, getD, take, drop, drop-of-length-le, length-drop}
 use lib.Seq.{drop-cons, drop-drop, take-all}
 use Rattle.key.specs.Bytes.{Bytes}
-use Rattle.server.specs.declared.glob.Step.{Step}
-use Rattle.server.specs.declared.glob.Step.the-variants as step
-use Rattle.server.specs.declared.glob.Walk.{Walk}
-use Rattle.server.specs.declared.glob.Walk.the-variants as walk
+use Rattle.server.specs.declared.pattern.Step.{Step}
+use Rattle.server.specs.declared.pattern.Step.the-variants as step
+use Rattle.server.specs.declared.pattern.Walk.{Walk}
+use Rattle.server.specs.declared.pattern.Walk.the-variants as walk
 use Rattle.server.specs.Glob.{Token, literal, one, star, tokenOf, tokens, matches, someTail, glob}
 use Rattle.server.specs.GlobWalk.{TokenAt, Stepped, Reach, here, past-literal, past-one, AtStar, Walked}
 

@@ -1,6 +1,6 @@
 // Glob patterns (`specs/Glob.antt` of `server`). Only the last star passed is retried, so the work is at most pattern times name.
-use server::glob::Step;
-use server::glob::Walk;
+use server::pattern::Step;
+use server::pattern::Walk;
 ghost use mathlib.Core.Path.{_≡_};
 ghost use Rattle.server.specs.Glob.{tokens, matches, someTail, glob};
 ghost use Rattle.server.specs.GlobWalk.{Stepped, Walked};

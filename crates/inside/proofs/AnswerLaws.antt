@@ -16,7 +16,7 @@ use Rattle.writing.specs.Puts.{Adds}
 use Rattle.writing.proofs.Puts.{same-added}
 use Rattle.resp.specs.Reply.{Reply, Integer, BulkString, Nil, array, bulkOr, encode}
 use Rattle.memtable.specs.Table.{Reader}
-use Rattle.server.specs.declared.errors.Fixed.{Fixed}
+use Rattle.server.specs.declared.Fixed.{Fixed}
 use Rattle.server.specs.Names.{Args, arguments}
 use Rattle.server.specs.Command.{argument, live, unknownCommand}
 use Rattle.server.specs.Errors.{fixedReply, arityOf}

@@ -1,9 +1,9 @@
 -- Counters inside EXEC: the text of a number behind the data, and the reply, the write and the check. Assumes nothing.
-use Prim.Native.Nat.{ℕ, zero, suc, _+_, _-_, _*_, _/_, _%_, _^_, _≤_, _<_}
+use Prim.Native.Nat.{ℕ, _+_, _-_, _*_, _^_, _≤_, _<_}
 use native.Mathlib.Omega.{arith}
 use mathlib.Core.Path.{_≡_, refl, sym, ap, ap₂, _∙_, subst}
 use mathlib.Core.List.{List, [], _∷_, _++_, append-assoc}
-use lib.IntN.{ℤ, pos, negsuc, _+ℤ_}
+use lib.IntN.{ℤ, _+ℤ_}
 use lib.ListN.{length, getD, take, drop, length-append, length-drop, take-append-drop}
 use lib.Seq.{take-at, drop-at, drop-drop, take-take, take-all, length-take-le}
 use borrow.Author.Tests.{le-leb}
@@ -24,12 +24,12 @@ use mir.Val.{SFits, toZ, ofZ}
 use mir.ValLaws.{toZ-ofZ}
 use Rattle.key.specs.Bytes.{Bytes, part}
 use Rattle.key.specs.Keys.{Key}
-use Rattle.number.specs.Decimal.{digits, decimal}
-use Rattle.number.proofs.Decimals.{digits-one, digits-more}
+use Rattle.key.proofs.Bytes.{or-none, or-twice}
+use Rattle.number.specs.Decimal.{decimal}
+use Rattle.number.proofs.Decimals.{decimal-few}
 use Rattle.memtable.specs.Versions.{moved}
 use Rattle.server.specs.Command.{Effect, argument, held, raised}
 use Rattle.own.specs.Own.{ownWrites, Own, readerOf}
-use Rattle.own.proofs.Lists.{by-order}
 use Rattle.reading.proofs.Counters.{raised-bad, raised-over, raised-to}
 use Rattle.number.specs.declared.Number.{Number}
 use Rattle.number.specs.declared.Number.the-variants.{Int, Bad}
@@ -37,15 +37,15 @@ use Rattle.number.specs.Number.{numberOf}
 use Rattle.inside.specs.declared.Walked.{Walked}
 use Rattle.command.specs.Kinds.{counterEffect}
 use Rattle.inside.specs.Walks.{TextPut, CounterSet, CounterError, Advanced}
-use mathlib.Core.Bool.{Bool, true, false, _||_}
+use mathlib.Core.Bool.{Bool, false, _||_}
 use Rattle.resp.specs.Reply.{Integer, encode}
 use Rattle.memtable.specs.Rows.{versionsIn}
 use Rattle.batch.specs.Group.{anyKey}
-use Rattle.server.specs.declared.errors.Fixed.{Fixed}
-use Rattle.server.specs.declared.errors.Fixed.the-variants as fixed
+use Rattle.server.specs.declared.Fixed.{Fixed}
+use Rattle.server.specs.declared.Fixed.the-variants as fixed
 use Rattle.server.specs.Errors.{fixedReply}
 use Rattle.server.specs.Places.{argumentsAt, PartsIn}
-use Rattle.command.proofs.ArgumentLaws.{argument-is}
+use Rattle.server.proofs.PlaceLaws.{part-in, argument-is}
 use Rattle.own.proofs.Growing.{part-append, writes-append, own-append}
 use Rattle.memtable.proofs.TableLaws.{last-one}
 
@@ -64,28 +64,6 @@ behind {text} {more} {longer} {entry} {mid} {last} {n} {m} w v e =
           ∙ ap₂ _++_ (ap (take n) (w .buffer) ∙ take-at text (drop n entry) n (sym (w .count))) (v .buffer ∙ ap (λ (l : List ℕ). more ++ drop m l) room)
           ∙ rw (e, append-assoc, drop-drop) refl;
     }
-
--- A TEXT OF AT MOST 20 BYTES
-abbrev tenTo : ℕ → ℕ
-tenTo zero = 1
-tenTo (suc k) = 10 * tenTo k
-
-few-digits : (k n : ℕ) → n < tenTo (suc k) → length (digits n) ≤ suc k
-few-digits zero n h = let e : length (digits n) ≡ 1 = ap length (digits-one n (omega arith)) in omega arith
-few-digits (suc k) n h =
-    by-order n 10
-    (λ l. let e : length (digits n) ≡ 1 = ap length (digits-one n l) in omega arith)
-    (λ l. let e : length (digits n) ≡ length (digits (n / 10)) + 1 = ap length (digits-more n l) ∙ length-append (digits (n / 10)) ((48 + n % 10) ∷ []) in
-    let s : n / 10 < 10 * tenTo k = omega arith in
-    omega (arith, few-digits k (n / 10) s))
-
-pub decimal-few : {z : ℤ} → SFits w64 z → length (decimal z) ≤ 20
-unfolding decimal
-decimal-few {z} h = go z h
-  where
-    go : (z : ℤ) → SFits w64 z → length (decimal z) ≤ 20
-    go (pos n) h = omega (arith, few-digits 18 n (omega (arith, h .sfits)))
-    go (negsuc n) h = omega (arith, few-digits 18 (suc n) (omega (arith, h .sfits)))
 
 -- THE NUMBER READ
 pub holds : (own : List ℕ) (d : Bytes) (rows : ℕ) (w : List ℕ) (b : Bytes) (s : ℕ) {name k : Key} {h : Number} → name ≡ k → h ≡ held (readerOf own d rows w b s name) → h ≡ held (readerOf own d rows w b s k)
@@ -112,15 +90,15 @@ module _ (n : ℤ) (d : Bytes) (used : ℕ) {text : Put} {last : Bytes} (fits : 
             ∙ ap (λ (z : ℤ). take used d ++ decimal z) (toZ-ofZ w64 n fits);
         end-is = ap (λ (x : ℕ). used + x) (w .count ∙ size);
         inside = omega (arith, j .fits, same-length j);
-        few = omega (arith, w .count, size, decimal-few fits);
+        few = omega (arith, w .count, size, decimal-few n (fits .sfits));
         same = same-length j;
       }
 
   pub no-room : text ≡ Full → TextPut n d used (with-rest used d last) used
-  no-room told = absurd (omega (arith, was-full p told .long, size, decimal-few fits, length-rest used d))
+  no-room told = absurd (omega (arith, was-full p told .long, size, decimal-few n (fits .sfits), length-rest used d))
 
   pub text-sum : {len : ℕ} → text ≡ Wrote len → length d * 1 < 2 ^ 63 → used + len < 2 ^ 64
-  text-sum told l = omega (arith, was-wrote p told .count, size, decimal-few fits)
+  text-sum told l = omega (arith, was-wrote p told .count, size, decimal-few n (fits .sfits))
 
 -- THE WRITE of the key at place 2 of the table
 pub counter-fits : (p : List ℕ) (d : Bytes) (start : ℕ) {a l x : ℕ} → a ≡ getD p 2 0 → l ≡ getD p 3 0 → x ≡ length d - start → KeyIn p d 2 → start ≤ length d → RowFits d a l start (x + 1)
@@ -197,20 +175,12 @@ same-advanced : {e e′ : Effect} (ks : List Key) (most seq : ℕ) (w : List ℕ
     → e ≡ e′ → Advanced e′ ks most seq w b own d out a own′ d′ out′ r → Advanced e ks most seq w b own d out a own′ d′ out′ r
 same-advanced ks most seq w b {own} {d} {out} {a} {own′} {d′} {out′} {r} same x = subst (λ (t : Effect). Advanced t ks most seq w b own d out a own′ d′ out′ r) (sym same) x
 
-or-twice : (x : Bool) → x ≡ (x || (x || false))
-or-twice true = refl
-or-twice false = refl
-
-or-none : (x : Bool) → x ≡ (x || false)
-or-none true = refl
-or-none false = refl
-
 -- the key of a counter
 abbrev nameAt : List ℕ → ℕ → Bytes → Key
 nameAt p count s = argument 1 (argumentsAt 0 count p s)
 
 pub counter-place : {p : List ℕ} {s : Bytes} {count : ℕ} → PartsIn p s count → 2 ≤ count → KeyIn p s 2
-counter-place ps least = record { words-in = omega (arith, ps .table); key-in = ps .inside 1 (omega arith) }
+counter-place {p} {s} {count} ps least = part-in p s count 1 ps (omega arith)
 
 module _ (w : List ℕ) (b : Bytes) (seq : ℕ) (by : ℤ) (p : List ℕ) (count : ℕ) {own : List ℕ} (d : Bytes) (a : Walked)
     (o : Own own (take (a .used) d) (a .rows)) (ps : PartsIn p (take (a .used) d) count) (least : 2 ≤ count) where
@@ -259,12 +229,12 @@ module _ (w : List ℕ) (b : Bytes) (seq : ℕ) (by : ℤ) (p : List ℕ) (count
           same-advanced (nameAt p count (take (a .used) d) ∷ []) (count - 1) seq w b (effect-is (raised-to (nameAt p count (take (a .used) d)) by is x-is y-is sum-is e))
           (record {
             kept = q .kept;
-            writes = q .writes ∙ (λ i. lastWrites (ownWrites own (take (a .used) d) (a .rows)) ((argument-is 1 ps (omega arith) refl i, some (decimal (t-is i))) ∷ []));
+            writes = q .writes ∙ (λ i. lastWrites (ownWrites own (take (a .used) d) (a .rows)) ((argument-is p (take (a .used) d) count 1 (omega arith) refl i, some (decimal (t-is i))) ∷ []));
             few = omega (arith, q .few);
             data-kept = sym (take-take (a .used) (r .used) d′ (omega (arith, q .text .end-is))) ∙ ap (take (a .used)) (q .text .is) ∙ take-at (take (a .used) d) (decimal t) (a .used) (length-take-le (a .used) d (omega (arith, q .text .inside, q .text .end-is, q .text .same)));
             used-more = omega (arith, q .text .end-is);
             used-few = q .text .few;
-            conflict-is = q .conflict-is ∙ c-is ∙ ap (λ (v : Bool). a .conflict || v) (m-is ∙ or-twice (moved seq (versionsIn w b) (nameAt p count (take (a .used) d))));
+            conflict-is = q .conflict-is ∙ c-is ∙ ap (λ (v : Bool). a .conflict || v) (m-is ∙ or-none (moved seq (versionsIn w b) (nameAt p count (take (a .used) d))) ∙ or-twice (moved seq (versionsIn w b) (nameAt p count (take (a .used) d))) false);
             adds = same-added (ap (λ (v : ℤ). encode (Integer v)) (sym t-is)) (q .adds);
             same = q .same;
             same-data = q .text .same;

@@ -1,21 +1,17 @@
 -- The walks over the keys of a command: has one of them moved? Assumes nothing.
-use Prim.Native.Nat.{ℕ, zero, suc, _+_, _-_, _*_, _≤_, _<_}
-use native.Mathlib.Numerals.{add-two}
+use Prim.Native.Nat.{ℕ, _+_, _-_, _*_, _≤_, _<_}
 use native.Mathlib.Omega.{arith}
 use mathlib.Core.Path.{_≡_, refl, sym, ap, _∙_}
 use mathlib.Core.Bool.{Bool, true, false, _||_}
-use mathlib.Core.List.{List, _∷_, map}
+use mathlib.Core.List.{List}
 use Rattle.key.specs.Bytes.{Bytes}
 use Rattle.key.specs.Keys.{Key}
-use Rattle.memtable.specs.Table.{keysOf}
+use Rattle.memtable.specs.Table.{Write, keysOf}
 use Rattle.memtable.specs.Versions.{Version, moved}
 use Rattle.batch.specs.Group.{anyKey}
 use Rattle.batch.specs.Settling.{keyPart, KeyIn}
-use Rattle.server.specs.Command.{put, pairsOf}
-use Rattle.server.specs.Places.{argumentsAt, PartsIn}
-use Rattle.own.specs.Changes.{pairsAt}
-use Rattle.own.proofs.ArgumentLaws.{part-in}
-use Rattle.reading.proofs.Arguments.{arguments-next, arguments-end}
+use Rattle.server.specs.Places.{argumentsAt, pairsAt, PartsIn}
+use Rattle.server.proofs.PlaceLaws.{part-in, arguments-next, arguments-end, pairs-next, pairs-end}
 
 -- ARGUMENTS before i have not moved
 pub record KeysFrom (s : ℕ) (vs : List Version) (p : List ℕ) (d : Bytes) (from to i : ℕ) : Type 0 where
@@ -52,7 +48,7 @@ module _ {s : ℕ} {vs : List Version} {p : List ℕ} {d : Bytes} {from to i : �
 -- PAIRS before argument i have not moved
 pub record PairsFrom (s : ℕ) (vs : List Version) (p : List ℕ) (d : Bytes) (from to i : ℕ) : Type 0 where
   pub within : i ≤ to
-  pub is : anyKey (moved s vs) (keysOf (pairsAt from to p d)) ≡ anyKey (moved s vs) (keysOf (pairsAt i to p d))
+  pub is : anyKey (moved s vs) (keysOf (pairsAt from (to - from) p d)) ≡ anyKey (moved s vs) (keysOf (pairsAt i (to - i) p d))
 
 pub pairs-none : (s : ℕ) (vs : List Version) (p : List ℕ) (d : Bytes) (from to : ℕ) → from ≤ to → PairsFrom s vs p d from to from
 pairs-none s vs p d from to h = record { within = h; is = refl }
@@ -62,33 +58,21 @@ module _ {s : ℕ} {vs : List Version} {p : List ℕ} {d : Bytes} {from to i : �
   pairs-part ps h = part-in p d to i ps (omega arith)
 
   module _ (h : 1 < to - i) {k : Key} {v : Bool} (k-is : k ≡ keyPart p d (2 * i)) (v-is : v ≡ moved s vs k) where
-    pairs-next : keysOf (pairsAt i to p d) ≡ keyPart p d (2 * i) ∷ keysOf (pairsAt (i + 2) to p d)
-    unfolding argumentsAt pairsOf
-    pairs-next =
-        let e : to - i ≡ suc (suc (to - (i + 2))) = omega arith in
-        ap (λ (m : ℕ). keysOf (map put (pairsOf (argumentsAt i m p d)))) e
-        ∙ ap (λ (j : ℕ). keyPart p d (2 * i) ∷ keysOf (map put (pairsOf (argumentsAt j (to - (i + 2)) p d)))) (sym (add-two i))
-
-    pairs-step : anyKey (moved s vs) (keysOf (pairsAt from to p d)) ≡ (v || anyKey (moved s vs) (keysOf (pairsAt (i + 2) to p d)))
+    pairs-step : anyKey (moved s vs) (keysOf (pairsAt from (to - from) p d)) ≡ (v || anyKey (moved s vs) (keysOf (pairsAt (i + 2) (to - (i + 2)) p d)))
     unfolding anyKey
     pairs-step =
-        g .is ∙ ap (anyKey (moved s vs)) pairs-next
-        ∙ ap (λ (x : Bool). x || anyKey (moved s vs) (keysOf (pairsAt (i + 2) to p d))) (sym (v-is ∙ ap (moved s vs) k-is))
+        g .is ∙ ap (λ (ws : List Write). anyKey (moved s vs) (keysOf ws)) (pairs-next p d i (to - i) (to - (i + 2)) (omega arith))
+        ∙ ap (λ (x : Bool). x || anyKey (moved s vs) (keysOf (pairsAt (i + 2) (to - (i + 2)) p d))) (sym (v-is ∙ ap (moved s vs) k-is))
 
-    pub pairs-found : v ≡ true → true ≡ anyKey (moved s vs) (keysOf (pairsAt from to p d))
-    pairs-found e = sym (pairs-step ∙ ap (λ (x : Bool). x || anyKey (moved s vs) (keysOf (pairsAt (i + 2) to p d))) e)
+    pub pairs-found : v ≡ true → true ≡ anyKey (moved s vs) (keysOf (pairsAt from (to - from) p d))
+    pairs-found e = sym (pairs-step ∙ ap (λ (x : Bool). x || anyKey (moved s vs) (keysOf (pairsAt (i + 2) (to - (i + 2)) p d))) e)
 
     pub pairs-more : v ≡ false → PairsFrom s vs p d from to (i + 2)
     pairs-more e = record {
       within = omega arith;
-      is = pairs-step ∙ ap (λ (x : Bool). x || anyKey (moved s vs) (keysOf (pairsAt (i + 2) to p d))) e;
+      is = pairs-step ∙ ap (λ (x : Bool). x || anyKey (moved s vs) (keysOf (pairsAt (i + 2) (to - (i + 2)) p d))) e;
     }
 
-  pub pairs-all : to - i ≤ 1 → false ≡ anyKey (moved s vs) (keysOf (pairsAt from to p d))
-  unfolding argumentsAt pairsOf anyKey
-  pairs-all h = sym (g .is ∙ go (to - i) h)
-    where
-      go : (m : ℕ) → m ≤ 1 → anyKey (moved s vs) (keysOf (map put (pairsOf (argumentsAt i m p d)))) ≡ false
-      go zero h = refl
-      go (suc zero) h = refl
-      go (suc (suc m)) h = absurd (omega arith)
+  pub pairs-all : to - i ≤ 1 → false ≡ anyKey (moved s vs) (keysOf (pairsAt from (to - from) p d))
+  unfolding anyKey
+  pairs-all h = sym (g .is ∙ ap (λ (ws : List Write). anyKey (moved s vs) (keysOf ws)) (pairs-end p d i (to - i) h))

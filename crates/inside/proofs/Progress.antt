@@ -4,7 +4,7 @@ use mathlib.Core.Bool.{Bool, true, false, _||_, cond}
 use mathlib.Core.List.{List, [], _∷_, _++_, map, append-assoc, append-nil}
 use Prim.Native.Nat.{ℕ, suc}
 use lib.ListN.{length}
-use Rattle.key.proofs.Bytes.{or-swap}
+use Rattle.key.proofs.Bytes.{or-none, or-swap}
 use Rattle.key.specs.Keys.{Key}
 use Rattle.resp.specs.Reply.{array, items, head, countItems, encode, encodeAll, NilArray}
 use Rattle.memtable.specs.Table.{Reader, Write, keysOf, over, lastWrites}
@@ -13,7 +13,7 @@ use Rattle.memtable.proofs.TableLaws.{Ascending, last-more, ascending-last, ove
 use Rattle.batch.specs.declared.Verdict.{Verdict}
 use Rattle.batch.specs.declared.Verdict.the-variants.{Accepted, Conflict, NoRoom, NoSequence}
 use Rattle.batch.specs.Group.{anyKey, heldKeys, conflicts, hasRoom, hasSequences, judge, verdictAlone}
-use Rattle.batch.proofs.KeyLists.{any-append, any-last-all}
+use Rattle.batch.proofs.KeyLists.{keys-append, any-append, any-last-all}
 use Rattle.server.specs.Names.{Args}
 use Rattle.server.specs.Command.{Command, commandOf, run, checks, Ran, runQueue}
 use Rattle.server.specs.Session.{Session, clear, says, returns, readSequence, watchedKeys, pendingExec, execute}
@@ -28,20 +28,12 @@ after s vs p ran = record {
   conflict = p .conflict || anyKey (moved s vs) (keysOf (ran .writes) ++ ran .checked);
 }
 
-keys-append : (a b : List Write) → keysOf (a ++ b) ≡ keysOf a ++ keysOf b
-keys-append [] b = refl
-keys-append (w ∷ a) b = ap {B = List Key} (λ ks. w .0 ∷ ks) (keys-append a b)
-
 or-four : (p a b c d : Bool) → ((p || (a || b)) || (c || d)) ≡ (p || ((a || c) || (b || d)))
 or-four true a b c d = refl
 or-four false true b c d = refl
 or-four false false true true d = refl
 or-four false false true false d = refl
 or-four false false false c d = refl
-
-or-none : (p : Bool) → (p || false) ≡ p
-or-none true = refl
-or-none false = refl
 
 any-parts : (f : Key → Bool) (c : Bool) (ws vs : List Write) (a b : List Key)
     → ((c || anyKey f (keysOf ws ++ a)) || anyKey f (keysOf vs ++ b)) ≡ (c || anyKey f (keysOf (ws ++ vs) ++ (a ++ b)))
@@ -56,7 +48,7 @@ all-advanced : (s : ℕ) (vs : List Version) (cs : List Command) (p : Progress) 
     → advanceAll s vs cs p ≡ after s vs p (runQueue (over (p .writes) (readAt s vs)) cs)
 unfolding advanceAll advance after runQueue anyKey lastWrites items encode
 all-advanced s vs [] p h =
-    sym (λ z. record { writes = p .writes; replies = append-nil (p .replies) z; conflict = or-none (p .conflict) z })
+    λ z. record { writes = p .writes; replies = sym (append-nil (p .replies)) z; conflict = or-none (p .conflict) z }
 all-advanced s vs (c ∷ cs) p h =
     let r : Reader = over (p .writes) (readAt s vs) in
     let ws : List Write = run r c .1 in

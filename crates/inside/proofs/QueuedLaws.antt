@@ -1,47 +1,27 @@
 -- One queued command, from what the function of its kind leaves. Assumes nothing.
-use Prim.Native.Nat.{ℕ, _-_, _≤_}
+use Prim.Native.Nat.{ℕ, _-_}
 use native.Mathlib.Omega.{arith}
 use mathlib.Core.Path.{_≡_, refl, sym, ap, _∙_, subst}
-use mathlib.Core.Bool.{Bool, true, false, _||_}
 use mathlib.Core.List.{List, [], _∷_}
 use lib.IntN.{ℤ}
 use lib.ListN.{take}
 use Rattle.key.specs.Bytes.{Bytes}
 use Rattle.key.specs.Keys.{Key}
+use Rattle.key.proofs.Bytes.{or-none}
 use Rattle.writing.specs.declared.Put.{Put}
 use Rattle.writing.specs.Puts.{Adds}
 use Rattle.resp.specs.Reply.{encode}
 use Rattle.memtable.specs.Table.{Reader, lastWrites}
 use Rattle.batch.specs.Group.{anyKey}
-use Rattle.server.specs.Names.{Args}
 use Rattle.server.specs.Command.{Effect, argument, commandOf, run, checks}
 use Rattle.server.specs.Places.{argumentsAt}
-use Rattle.command.specs.Meant.{InPairs}
 use Rattle.own.specs.Own.{ownWrites, Own, readerOf}
 use Rattle.inside.specs.declared.Walked.{Walked}
 use Rattle.command.specs.declared.Read.{Read}
 use Rattle.command.specs.declared.Kind.{Kind}
 use Rattle.command.specs.declared.Kind.the-variants.{Pairs, Tombstones, Counter, Reads}
-use Rattle.command.specs.Kinds.{readReply, leastRead, pairsEffect, tombstonesEffect, counterEffect, kindEffect, kindChecks, KindCounted, KindIs}
+use Rattle.command.specs.Kinds.{readReply, pairsEffect, tombstonesEffect, counterEffect, kindEffect, kindChecks, KindIs}
 use Rattle.inside.specs.Walks.{Ran, Advanced}
-
--- THE ARGUMENT COUNT of each kind
-module _ {a : Args} {count : ℕ} {k : Kind} (i : KindIs a count k) where
-  pub pairs-counted : k ≡ Pairs → InPairs count
-  unfolding KindCounted
-  pairs-counted e = subst (λ (x : Kind). KindCounted x count) e (i .counted)
-
-  pub counter-counted : {n : ℤ} → k ≡ Counter n → 2 ≤ count
-  unfolding KindCounted
-  counter-counted e = subst (λ (x : Kind). KindCounted x count) e (i .counted)
-
-  pub read-counted : {q : Read} → k ≡ Reads q → leastRead q ≤ count
-  unfolding KindCounted
-  read-counted e = subst (λ (x : Kind). KindCounted x count) e (i .counted)
-
-or-still : (x : Bool) → x ≡ (x || false)
-or-still true = refl
-or-still false = refl
 
 module _ (seq : ℕ) (w : List ℕ) (b : Bytes) (p : List ℕ) (count : ℕ) (own : List ℕ) (d : Bytes) (a : Walked) where
   -- the same effect and checks under other names
@@ -107,7 +87,7 @@ module _ (seq : ℕ) (w : List ℕ) (b : Bytes) (p : List ℕ) (count : ℕ) (ow
           data-kept = refl;
           used-more = omega arith;
           used-few = omega arith;
-          conflict-is = or-still (a .conflict);
+          conflict-is = or-none (a .conflict);
           adds = s;
           same = refl;
           same-data = refl;

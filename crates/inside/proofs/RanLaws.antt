@@ -15,14 +15,14 @@ use Rattle.memtable.specs.Table.{keysOf, lastWrites}
 use Rattle.memtable.specs.Versions.{moved}
 use Rattle.memtable.specs.Rows.{versionsIn}
 use Rattle.batch.specs.Group.{anyKey}
-use Rattle.server.specs.declared.errors.Fixed.the-variants.{Ok}
+use Rattle.server.specs.declared.Fixed.the-variants.{Ok}
 use Rattle.server.specs.Names.{Args, arguments}
 use Rattle.server.specs.Command.{put, tombstone, pairsOf}
 use Rattle.server.specs.Errors.{fixedReply}
-use Rattle.server.specs.Places.{argumentsAt}
+use Rattle.server.specs.Places.{argumentsAt, tombstonesAt, pairsAt}
 use Rattle.command.specs.Meant.{InPairs}
 use Rattle.own.specs.Own.{ownWrites, readerOf}
-use Rattle.own.specs.Changes.{OwnPuts, tombstonesAt, pairsAt}
+use Rattle.own.specs.Changes.{OwnPuts}
 use Rattle.inside.specs.declared.Walked.{Walked}
 use Rattle.command.specs.Kinds.{liveReply, pairsEffect, tombstonesEffect}
 use Rattle.inside.specs.Walks.{Ran}
@@ -34,15 +34,17 @@ pub pairs-least : {count : ℕ} → InPairs count → 1 ≤ count
 pairs-least i = omega (arith, i .least)
 
 module _ (p : List ℕ) (d : Bytes) (count : ℕ) (h : 1 ≤ count) where
-  pairs-are : pairsAt 1 count p d ≡ map put (pairsOf (arguments (argumentsAt 0 count p d)))
+  pairs-are : pairsAt 1 (count - 1) p d ≡ map put (pairsOf (arguments (argumentsAt 0 count p d)))
+  unfolding pairsAt
   pairs-are = ap (λ (x : Args). map put (pairsOf x)) (sym (arguments-of p d count h))
 
-  tombstones-are : tombstonesAt 1 count p d ≡ map tombstone (arguments (argumentsAt 0 count p d))
+  tombstones-are : tombstonesAt 1 (count - 1) p d ≡ map tombstone (arguments (argumentsAt 0 count p d))
+  unfolding tombstonesAt
   tombstones-are = ap (map tombstone) (sym (arguments-of p d count h))
 
 module _ (w : List ℕ) (b : Bytes) (seq : ℕ) (p : List ℕ) (d : Bytes) (count : ℕ) {own own′ : List ℕ} {out out′ : Bytes} {a : Walked} {rows : ℕ} {m c : Bool} {next : Put} where
-  pub pairs-ran : InPairs count → Adds (encode (fixedReply Ok)) (a .put) out next out′ → OwnPuts own own′ d (a .rows) (pairsAt 1 count p d) ((count - 1) / 2) rows
-      → m ≡ anyKey (moved seq (versionsIn w b)) (keysOf (pairsAt 1 count p d)) → c ≡ (a .conflict || m)
+  pub pairs-ran : InPairs count → Adds (encode (fixedReply Ok)) (a .put) out next out′ → OwnPuts own own′ d (a .rows) (pairsAt 1 (count - 1) p d) ((count - 1) / 2) rows
+      → m ≡ anyKey (moved seq (versionsIn w b)) (keysOf (pairsAt 1 (count - 1) p d)) → c ≡ (a .conflict || m)
       → Ran (pairsEffect (argumentsAt 0 count p d)) [] (count - 1) seq w b d own out a own′ out′ (record { rows = rows; used = a .used; conflict = c; put = next })
   unfolding pairsEffect fixedReply
   pairs-ran i s o m-is c-is =
@@ -59,7 +61,7 @@ module _ (w : List ℕ) (b : Bytes) (seq : ℕ) (p : List ℕ) (d : Bytes) (coun
       }
 
   pub tombstones-ran : 1 ≤ count → Adds (encode (liveReply (readerOf own d (a .rows) w b seq) (argumentsAt 0 count p d))) (a .put) out next out′
-      → OwnPuts own own′ d (a .rows) (tombstonesAt 1 count p d) (count - 1) rows
+      → OwnPuts own own′ d (a .rows) (tombstonesAt 1 (count - 1) p d) (count - 1) rows
       → m ≡ anyKey (moved seq (versionsIn w b)) (argumentsAt 1 (count - 1) p d) → c ≡ (a .conflict || m)
       → Ran (tombstonesEffect (readerOf own d (a .rows) w b seq) (argumentsAt 0 count p d)) [] (count - 1) seq w b d own out a own′ out′ (record { rows = rows; used = a .used; conflict = c; put = next })
   unfolding tombstonesEffect

@@ -16,7 +16,7 @@ use Rattle.memtable.specs.Versions.{moved}
 use Rattle.memtable.specs.Rows.{versionsIn}
 use Rattle.batch.specs.Group.{anyKey}
 use Rattle.server.specs.Command.{Effect, Command, commandOf}
-use Rattle.server.specs.declared.errors.Fixed.{Fixed}
+use Rattle.server.specs.declared.Fixed.{Fixed}
 use Rattle.server.specs.Errors.{fixedReply}
 use Rattle.server.specs.Sessions.{splitBy, allPositive}
 use Rattle.server.specs.Places.{argumentsAt, PartsIn}

@@ -7,7 +7,7 @@ use number::Number;
 use number::integer;
 use own::write;
 use reading::counter;
-use server::errors::Fixed;
+use server::Fixed;
 use writing::Put;
 ghost use mathlib.Core.Path.{_≡_};
 ghost use mathlib.Core.List.{[], _∷_};

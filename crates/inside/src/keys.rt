@@ -8,8 +8,7 @@ ghost use Rattle.memtable.specs.Table.{keysOf};
 ghost use Rattle.memtable.specs.Versions.{moved};
 ghost use Rattle.memtable.specs.Rows.{Valid, versionsIn};
 ghost use Rattle.batch.specs.Group.{anyKey};
-ghost use Rattle.server.specs.Places.{argumentsAt, PartsIn};
-ghost use Rattle.own.specs.Changes.{pairsAt};
+ghost use Rattle.server.specs.Places.{argumentsAt, pairsAt, PartsIn};
 
 // One of the two.
 pub fn either(a: bool, b: bool) -> bool
@@ -59,7 +58,7 @@ pub fn pairs_moved(
     requires { ⌜ PartsIn (now places) (now «data») to ⌝ }
     requires { ⌜ from ≤ to ⌝ }
     requires { ⌜ Valid (now words) (now bytes) ⌝ }
-    ensures { λ r. ⌜ r ≡ anyKey (moved seq (versionsIn (now (words .entry)) (now (bytes .entry)))) (keysOf (pairsAt from to (now (places .entry)) (now («data» .entry)))) ⌝ }
+    ensures { λ r. ⌜ r ≡ anyKey (moved seq (versionsIn (now (words .entry)) (now (bytes .entry)))) (keysOf (pairsAt from (to - from) (now (places .entry)) (now («data» .entry)))) ⌝ }
 {
     let mut i = from;
     while 1 < to - i {

@@ -2,7 +2,7 @@
 use crate::Walked;
 use crate::keys;
 use own::arguments;
-use server::errors::Fixed;
+use server::Fixed;
 ghost use Prim.Native.Nat.{_+_, _-_, _*_, _≤_};
 ghost use lib.ListN.{length};
 ghost use Rattle.memtable.specs.Rows.{Valid};

@@ -1,42 +1,87 @@
 -- Laws of the blocks of eight bytes in which keys are compared. Assumes nothing.
-use Prim.Native.Nat.{ℕ, _+_, _*_, _≤_, _<_}
-use mathlib.Core.Path.{_≡_, refl, sym, _∙_, subst}
-use mathlib.Core.List.{List}
-use mathlib.Core.Bool.{Bool}
+use Prim.Native.Nat.{ℕ, suc, _+_, _-_, _*_, _≤_, _<_}
+use native.Mathlib.Numerals.{add-one}
+use mathlib.Core.Path.{_≡_, refl, sym, ap, _∙_}
+use mathlib.Core.List.{List, _∷_, _++_}
+use mathlib.Core.Bool.{Bool, true, false}
 use lib.Dec.{eqb}
-use lib.ListN.{length, getD}
-use borrow.Author.Tests.{eqb-true}
+use lib.ListN.{length, drop, getD, take-append-drop}
+use lib.Seq.{drop-cons, drop-drop}
+use borrow.Author.Tests.{eq-eqb, ne-eqb}
 use native.Mathlib.Omega.{arith}
-use Rattle.key.specs.Blocks.{Alike, FourAt, EightAt, SameBlock}
-use Rattle.key.proofs.Keys.{alike-more}
+use Rattle.key.specs.Bytes.{sameBytes, part}
+use Rattle.key.specs.Blocks.{Alike, FourAt, EightAt, sameBlock}
+use Rattle.key.specs.Keys.{compareKeys}
+use Rattle.key.proofs.Bytes.{neither}
+use Rattle.key.proofs.Keys.{compare-front, same-is, same-refl, same-bytes}
+
+-- THE BYTES OF A BLOCK
+part-next : (l : List ℕ) (i j n : ℕ) → i + 1 ≡ j → i < length l → part i (suc n) l ≡ getD l i 0 ∷ part j n l
+part-next l i j n e h = rw (← e, add-one, drop-cons l i 0) refl
+
+part-four : (l : List ℕ) (i n : ℕ) → i + 4 ≤ length l → part i (suc (suc (suc (suc n)))) l ≡ getD l i 0 ∷ getD l (i + 1) 0 ∷ getD l (i + 2) 0 ∷ getD l (i + 3) 0 ∷ part (i + 4) n l
+part-four l i n h =
+    part-next l i (i + 1) (suc (suc (suc n))) refl (omega arith)
+    ∙ ap (λ (t : List ℕ). getD l i 0 ∷ t) (part-next l (i + 1) (i + 2) (suc (suc n)) (omega arith) (omega arith)
+    ∙ ap (λ (t : List ℕ). getD l (i + 1) 0 ∷ t) (part-next l (i + 2) (i + 3) (suc n) (omega arith) (omega arith)
+    ∙ ap (λ (t : List ℕ). getD l (i + 2) 0 ∷ t) (part-next l (i + 3) (i + 4) n (omega arith) (omega arith))))
 
 -- a byte in front of equal numbers is equal, and so is what follows
 first-equal : (x y m n : ℕ) → x < 256 → y < 256 → x + 256 * m ≡ y + 256 * n → (x ≡ y) × (m ≡ n)
 first-equal x y m n h k e = (omega (arith, e), omega (arith, e))
 
-module _ {a b : List ℕ} where
-  -- one byte more, by an equation
-  alike-one : {i j : ℕ} → Alike a b i → i < length a → i < length b → getD a i 0 ≡ getD b i 0 → i + 1 ≡ j → Alike a b j
-  alike-one al h k e f = subst (Alike a b) f (alike-more al h k (omega (arith, e)) (omega (arith, e)))
-
-  -- four equal bytes more
-  alike-four : {i j x y : ℕ} → Alike a b i → i + 4 ≤ length a → i + 4 ≤ length b → FourAt a i x → FourAt b i y → x ≡ y → i + 4 ≡ j → Alike a b j
-  alike-four {i} {j} {x} {y} al h k p q e f =
+module _ {a b : List ℕ} {i x y : ℕ} (h : i + 4 ≤ length a) (k : i + 4 ≤ length b) (p : FourAt a i x) (q : FourAt b i y) where
+  -- equal numbers have equal bytes
+  four-parts : (n : ℕ) → x ≡ y → part (i + 4) n a ≡ part (i + 4) n b → part i (suc (suc (suc (suc n)))) a ≡ part i (suc (suc (suc (suc n)))) b
+  four-parts n e f =
       let c = first-equal (getD a i 0) (getD b i 0) _ _ (p .first) (q .first) (sym (p .is) ∙ e ∙ q .is) in
       let d = first-equal (getD a (i + 1) 0) (getD b (i + 1) 0) _ _ (p .second) (q .second) (c .1) in
       let g = first-equal (getD a (i + 2) 0) (getD b (i + 2) 0) _ _ (p .third) (q .third) (d .1) in
-      let one : Alike a b (i + 1) = alike-more al (omega arith) (omega arith) (omega (arith, c .0)) (omega (arith, c .0)) in
-      let two : Alike a b (i + 2) = alike-one one (omega arith) (omega arith) (d .0) (omega arith) in
-      let three : Alike a b (i + 3) = alike-one two (omega arith) (omega arith) (g .0) (omega arith) in
-      alike-one three (omega arith) (omega arith) (g .1) (omega (arith, f))
+      part-four a i n h ∙ (λ z. c .0 z ∷ d .0 z ∷ g .0 z ∷ g .1 z ∷ f z) ∙ sym (part-four b i n k)
 
-  -- eight equal bytes more
-  alike-eight : {i x y : ℕ} → Alike a b i → i + 8 ≤ length a → i + 8 ≤ length b → EightAt a i x → EightAt b i y → x ≡ y → Alike a b (i + 8)
-  alike-eight {i} {x} {y} al h k p q e =
-      let u : p .lower < 4294967296 = omega (arith, p .first .is, p .first .first, p .first .second, p .first .third, p .first .fourth) in
-      let v : q .lower < 4294967296 = omega (arith, q .first .is, q .first .first, q .first .second, q .first .third, q .first .fourth) in
-      let s : p .lower + 4294967296 * p .upper ≡ q .lower + 4294967296 * q .upper = sym (p .is) ∙ e ∙ q .is in
-      alike-four (alike-four al (omega arith) (omega arith) (p .first) (q .first) (omega (arith, s, u, v)) refl) (omega arith) (omega arith) (p .second) (q .second) (omega (arith, s, u, v)) (omega arith)
+  -- and equal bytes equal numbers
+  four-numbers : (n : ℕ) → part i (suc (suc (suc (suc n)))) a ≡ part i (suc (suc (suc (suc n)))) b → (x ≡ y) × (part (i + 4) n a ≡ part (i + 4) n b)
+  four-numbers n e =
+      let f = sym (part-four a i n h) ∙ e ∙ part-four b i n k in
+      let at : (j : ℕ) → _ = λ (j : ℕ). ap (λ (l : List ℕ). getD l j 0) f in
+      (p .is ∙ (λ z. at 0 z + 256 * (at 1 z + 256 * (at 2 z + 256 * at 3 z))) ∙ sym (q .is), ap (drop 4) f)
 
-  pub same-block : {i x y : ℕ} {r : Bool} → i + 8 ≤ length a → i + 8 ≤ length b → EightAt a i x → EightAt b i y → r ≡ eqb x y → SameBlock a b i r
-  same-block {i} {x} {y} h k p q e = record { more = λ f al. alike-eight al h k p q (eqb-true x y (sym e ∙ f)) }
+four-small : {l : List ℕ} {j x : ℕ} → FourAt l j x → x < 4294967296
+four-small p = omega (arith, p .is, p .first, p .second, p .third, p .fourth)
+
+module _ {a b : List ℕ} {i : ℕ} where
+  module _ {x y : ℕ} (h : i + 8 ≤ length a) (k : i + 8 ≤ length b) (p : EightAt a i x) (q : EightAt b i y) where
+    eight-parts : x ≡ y → part i 8 a ≡ part i 8 b
+    eight-parts e =
+        let u = four-small (p .first) in
+        let v = four-small (q .first) in
+        let s : p .lower + 4294967296 * p .upper ≡ q .lower + 4294967296 * q .upper = sym (p .is) ∙ e ∙ q .is in
+        four-parts (omega arith) (omega arith) (p .first) (q .first) 4 (omega (arith, s, u, v))
+        (four-parts (omega arith) (omega arith) (p .second) (q .second) 0 (omega (arith, s, u, v)) refl)
+
+    eight-numbers : part i 8 a ≡ part i 8 b → x ≡ y
+    eight-numbers e =
+        let f = four-numbers (omega arith) (omega arith) (p .first) (q .first) 4 e in
+        let g = four-numbers (omega arith) (omega arith) (p .second) (q .second) 0 (f .1) in
+        p .is ∙ (λ z. f .0 z + 4294967296 * g .0 z) ∙ sym (q .is)
+
+    -- the numbers are equal where the bytes are the same
+    pub same-block : {r : Bool} → r ≡ eqb x y → r ≡ sameBlock a b i
+    unfolding sameBlock
+    same-block {r} e = e ∙ go (sameBytes (part i 8 a) (part i 8 b)) refl
+      where
+        go : (t : Bool) → sameBytes (part i 8 a) (part i 8 b) ≡ t → eqb x y ≡ t
+        go true f = eq-eqb x y (eight-numbers (same-is _ _ (sym (same-bytes _ _) ∙ f)))
+        go false f = ne-eqb x y (λ (g : x ≡ y). neither (ap (sameBytes (part i 8 a)) (sym (eight-parts g)) ∙ same-bytes _ _ ∙ same-refl (part i 8 a)) f)
+
+  -- the same eight bytes more
+  pub alike-block : {r : Bool} → r ≡ sameBlock a b i → r ≡ true → Alike a b i → 8 ≤ length a - i → 8 ≤ length b - i → Alike a b (i + 8)
+  unfolding sameBlock
+  alike-block e t al h k =
+      let f : part i 8 a ≡ part i 8 b = same-is _ _ (sym (same-bytes _ _) ∙ sym e ∙ t) in
+      let here : (l : List ℕ) → drop i l ≡ part i 8 l ++ drop (i + 8) l = λ (l : List ℕ). sym (take-append-drop 8 (drop i l)) ∙ ap (λ (m : List ℕ). part i 8 l ++ m) (drop-drop 8 i l) in
+      record {
+        in-a = omega (arith, al .in-a);
+        in-b = omega (arith, al .in-b);
+        rest = al .rest ∙ (λ z. compareKeys (here a z) ((here b ∙ ap (λ (m : List ℕ). m ++ drop (i + 8) b) (sym f)) z)) ∙ compare-front (part i 8 a) (drop (i + 8) a) (drop (i + 8) b);
+      }

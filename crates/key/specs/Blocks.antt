@@ -1,9 +1,9 @@
 -- The steps in which two keys are compared: blocks of eight bytes, then byte by byte.
 use Prim.Native.Nat.{ℕ, _+_, _*_, _≤_, _<_}
 use mathlib.Core.Path.{_≡_}
-use mathlib.Core.Bool.{Bool, true}
+use mathlib.Core.Bool.{Bool}
 use lib.ListN.{length, drop, getD}
-use Rattle.key.specs.Bytes.{Bytes}
+use Rattle.key.specs.Bytes.{Bytes, part, sameBytes}
 use Rattle.key.specs.Keys.{compareKeys}
 
 -- the keys compare as what is left of them from i on
@@ -33,6 +33,6 @@ pub record EightAt (s : Bytes) (i r : ℕ) : Type 0 where
   pub first : FourAt s i lower
   pub second : FourAt s (i + 4) upper
 
--- where the eight bytes from i on are the same, the keys are alike in front of what follows
-pub record SameBlock (a b : Bytes) (i : ℕ) (r : Bool) : Type 0 where
-  pub more : r ≡ true → Alike a b i → Alike a b (i + 8)
+-- the eight bytes from i on are the same
+unfoldable pub sameBlock : Bytes → Bytes → ℕ → Bool
+sameBlock a b i = sameBytes (part i 8 a) (part i 8 b)

@@ -6,7 +6,7 @@ use mathlib.Core.Path.{_≡_, refl, sym, ap, ap₂, _∙_}
 use mathlib.Core.Bool.{Bool, true, false, cond, _&&_}
 use mathlib.Core.List.{List, [], _++_}
 use mathlib.Core.Option.{Option, none, some}
-use lib.ListN.{length, take, drop, getD, set, length-take, length-drop, length-set}
+use lib.ListN.{length, take, drop, getD, set, length-drop, length-set}
 use lib.Dec.{leb}
 use lib.Seq.{drop-at, drop-append-le, take-append-le, ext-getD, take-at, take-take, drop-drop, getD-drop, getD-take, getD-set-same, getD-set-other, length-take-le}
 use borrow.Author.Tests.{leb-true}
@@ -14,16 +14,15 @@ use borrow.Rule.Slice.PartMut.{midOf, putMid, same-len-mid, mid-len, take-put, d
 use Rattle.key.specs.Bytes.{Bytes, part}
 use Rattle.calls.specs.Frames as F
 use Rattle.lines.specs.declared.line.Given.{Given}
-use Rattle.lines.specs.declared.line.Given.the-variants.{Frame, Malformed}
+use Rattle.lines.specs.declared.line.Given.the-variants.{Malformed}
 use Rattle.lines.specs.declared.line.Head.{Head}
 use Rattle.lines.specs.declared.line.Head.the-variants.{Session, NoSession}
 use Rattle.lines.specs.declared.rest.Kept.{Kept}
 use Rattle.lines.specs.declared.rest.Kept.the-variants.{Bytes as Count, TooLong}
-use Rattle.lines.specs.Line.{Headed, HeadRead, inputOf, LineRead}
+use Rattle.lines.specs.Line.{headOf, inputOf, LineRead}
 use Rattle.lines.specs.Rest.{keptOf, heldOf, restOf, Keeps}
-use Rattle.lines.specs.Served.{listed}
 use Rattle.lines.specs.Held.{Memory, countAt, heldAt, restsIn, slotOf, FrameRead, RestAt, RestKept}
-use Rattle.lines.proofs.LineLaws.{headed, not-given}
+use Rattle.lines.proofs.LineLaws.{Headed, headed, not-given}
 use Rattle.lines.proofs.RestLaws.{part-length}
 use Rattle.lines.proofs.ServedLaws.{listed-length, listed-at}
 
@@ -147,7 +146,7 @@ input-size i (some s) g e = go (leb 1 (length s)) (leb (length s) 4096) refl e
 whole-input : (line : Bytes) {i : ℕ} → Headed line i → (g : F.Given) → F.given line ≡ some g → length (g .input) ≤ 4096
 whole-input line {i} h g e = input-size i (F.unhex (drop 3 line)) g (sym (h .is) ∙ e)
 
-pub frame-malformed : (line : Bytes) (counts : List ℕ) (held : Bytes) {r : Head} → HeadRead line r → r ≡ NoSession → FrameRead line counts held Malformed held
+pub frame-malformed : (line : Bytes) (counts : List ℕ) (held : Bytes) {r : Head} → r ≡ headOf line → r ≡ NoSession → FrameRead line counts held Malformed held
 frame-malformed line counts held {r} read e =
     let g = not-given line r read e in
     record {
@@ -157,7 +156,7 @@ frame-malformed line counts held {r} read e =
       size = refl;
     }
 
-module _ (line : Bytes) (counts : List ℕ) (held : Bytes) {h : Head} {i slot at : ℕ} {r : Given} {last : Bytes} (m : Memory counts held) (read : HeadRead line h) (told : h ≡ Session i) (place : slot ≡ slotOf i) (count : at ≡ countAt counts slot)
+module _ (line : Bytes) (counts : List ℕ) (held : Bytes) {h : Head} {i slot at : ℕ} {r : Given} {last : Bytes} (m : Memory counts held) (read : h ≡ headOf line) (told : h ≡ Session i) (place : slot ≡ slotOf i) (count : at ≡ countAt counts slot)
     (is : LineRead line at (midOf (slot * 8192) (slot * 8192 + 8192 - slot * 8192) held) r last) where
   below16 : slot < 16
   below16 = omega arith
@@ -264,7 +263,7 @@ module _ (counts : List ℕ) (held : Bytes) (i from to : ℕ) {r : Kept} {last :
         rests-changed counts (set counts i n) held (putMid (i * 8192) (i * 8192 + 8192 - i * 8192) held last) i (restOf (part (i * 8192 + from) (to - from) held)) (p .session)
         (own-rest n fits ∙ ap (λ (c : ℕ). take c last) (sym e) ∙ k .held ∙ rest-was)
         (λ j h ne. other-counts n j ne);
-    words = length-set counts i n;
+    words = ap (set counts i) (sym e);
     bytes = kept-length (i * 8192) held last part-inside (k .size);
   }
 

@@ -7,3 +7,4 @@ pub mod LineLaws
 pub mod QuitLaws
 pub mod RestLaws
 pub mod ServedLaws
+pub mod UsedLaws

@@ -2,14 +2,14 @@
 use Prim.Native.Nat.{ℕ, _+_, _-_, _*_, _≤_, _<_}
 use native.Mathlib.Omega.{arith}
 use mathlib.Core.Path.{_≡_, refl, sym, ap, _∙_}
-use mathlib.Core.Bool.{Bool, true, false, _&&_}
+use mathlib.Core.Bool.{Bool, true, false, cond, _&&_}
 use mathlib.Core.List.{[], _∷_, _++_, append-nil}
 use mathlib.Core.Option.{Option, none, some}
 use lib.Dec.{leb, eqb}
 use lib.ListN.{length, take, drop, getD, length-drop, drop-of-length-le}
 use lib.Seq.{take-all, take-append-add, length-take-le}
 use borrow.Rule.Slice.PartMut.{same-len-mid}
-use borrow.Author.Tests.{le-leb, lt-leb, eq-eqb, ne-eqb}
+use borrow.Author.Tests.{le-leb, lt-leb, leb-true, leb-false, eq-eqb, ne-eqb}
 use Rattle.key.specs.Bytes.{Bytes}
 use Rattle.writing.proofs.Lent.{rest, with-rest}
 use Rattle.calls.specs.Frames as F
@@ -18,7 +18,7 @@ use Rattle.lines.specs.declared.line.Decoded.{Decoded}
 use Rattle.lines.specs.declared.line.Decoded.the-variants.{Bytes as Count, NoBytes}
 use Rattle.lines.specs.declared.line.Head.{Head}
 use Rattle.lines.specs.declared.line.Head.the-variants.{Session, NoSession}
-use Rattle.lines.specs.Line.{countOf, orNothing, Decodes, Headed, HeadRead, Room, LineRead}
+use Rattle.lines.specs.Line.{countOf, orNothing, Decodes, headOf, Room, LineRead}
 use Rattle.lines.proofs.HexLaws.{unhex-length}
 
 -- A LINE OF ANOTHER FORM
@@ -37,80 +37,136 @@ unfolding F.givenOf
 too-many false i s h = refl
 too-many true i s h = let one : 1 ≤ length s = omega arith in rw (le-leb 1 (length s) one, lt-leb (length s) 4096 h)
 
-pub given-short : (line : Bytes) → length line < 5 → F.given line ≡ none
-unfolding F.given F.unhex
-given-short [] h = refl
-given-short (a ∷ []) h = refl
-given-short (a ∷ b ∷ []) h = refl
-given-short (a ∷ b ∷ c ∷ []) h = no-digits _ _
-given-short (a ∷ b ∷ c ∷ d ∷ []) h = no-bytes _ _
-given-short (a ∷ b ∷ c ∷ d ∷ e ∷ s) h = absurd (omega arith)
+given-short : (t : Bool) (i : ℕ) (s : Bytes) → length s < 2 → F.givenOf t i (F.unhex s) ≡ none
+unfolding F.unhex
+given-short t i [] h = no-digits t i
+given-short t i (d ∷ []) h = no-bytes t i
+given-short t i (d ∷ e ∷ s) h = absurd (omega arith)
 
-pub given-long : (line : Bytes) → 8195 < length line → F.given line ≡ none
-unfolding F.given
-given-long [] h = refl
-given-long (a ∷ []) h = refl
-given-long (a ∷ b ∷ []) h = refl
-given-long (a ∷ b ∷ c ∷ s) h = go (F.unhex s) refl
+given-long : (t : Bool) (i : ℕ) (s : Bytes) → 8192 < length s → F.givenOf t i (F.unhex s) ≡ none
+given-long t i s h = go (F.unhex s) refl
   where
-    go : (o : Option Bytes) → F.unhex s ≡ o → F.givenOf (F.isDigit a && F.isDigit b && eqb c 32) ((a - 48) * 10 + (b - 48)) o ≡ none
-    go none e = no-bytes _ _
-    go (some t) e = too-many _ _ t (omega (arith, unhex-length s e))
+    go : (o : Option Bytes) → F.unhex s ≡ o → F.givenOf t i o ≡ none
+    go none e = no-bytes t i
+    go (some u) e = too-many t i u (omega (arith, unhex-length s e))
 
-pub given-tens-low : (line : Bytes) → getD line 0 0 < 48 → F.given line ≡ none
-unfolding F.given F.givenOf
-given-tens-low [] h = refl
-given-tens-low (a ∷ []) h = refl
-given-tens-low (a ∷ b ∷ []) h = refl
-given-tens-low (a ∷ b ∷ c ∷ s) h = rw (lt-leb 48 a h)
+given-other : (i : ℕ) (o : Option Bytes) → F.givenOf false i o ≡ none
+unfolding F.givenOf
+given-other i o = refl
 
-pub given-tens-high : (line : Bytes) → 48 ≤ getD line 0 0 → 57 < getD line 0 0 → F.given line ≡ none
-unfolding F.given F.givenOf
-given-tens-high [] l h = refl
-given-tens-high (a ∷ []) l h = refl
-given-tens-high (a ∷ b ∷ []) l h = refl
-given-tens-high (a ∷ b ∷ c ∷ s) l h = rw (le-leb 48 a l, lt-leb a 57 h)
+-- THE HEAD OF A LINE, by the tests of the code
+pub head-short : (line : Bytes) → length line < 5 → NoSession ≡ headOf line
+unfolding headOf
+head-short [] h = refl
+head-short (a ∷ []) h = refl
+head-short (a ∷ b ∷ []) h = refl
+head-short (a ∷ b ∷ c ∷ s) h = go (F.isDigit a && F.isDigit b && eqb c 32)
+  where
+    go : (t : Bool) → NoSession ≡ cond (t && leb 2 (length s) && leb (length s) 8192) (Session ((a - 48) * 10 + (b - 48))) NoSession
+    go true = rw (lt-leb 2 (length s) (omega arith))
+    go false = refl
 
-pub given-ones-low : (line : Bytes) → 48 ≤ getD line 0 0 → getD line 0 0 ≤ 57 → getD line 1 0 < 48 → F.given line ≡ none
-unfolding F.given F.givenOf
-given-ones-low [] p q h = refl
-given-ones-low (a ∷ []) p q h = refl
-given-ones-low (a ∷ b ∷ []) p q h = refl
-given-ones-low (a ∷ b ∷ c ∷ s) p q h = rw (le-leb 48 a p, le-leb a 57 q, lt-leb 48 b h)
+pub head-long : (line : Bytes) → 8195 < length line → NoSession ≡ headOf line
+unfolding headOf
+head-long [] h = refl
+head-long (a ∷ []) h = refl
+head-long (a ∷ b ∷ []) h = refl
+head-long (a ∷ b ∷ c ∷ s) h = go (F.isDigit a && F.isDigit b && eqb c 32 && leb 2 (length s))
+  where
+    go : (t : Bool) → NoSession ≡ cond (t && leb (length s) 8192) (Session ((a - 48) * 10 + (b - 48))) NoSession
+    go true = rw (lt-leb (length s) 8192 (omega arith))
+    go false = refl
 
-pub given-ones-high : (line : Bytes) → 48 ≤ getD line 0 0 → getD line 0 0 ≤ 57 → 48 ≤ getD line 1 0 → 57 < getD line 1 0 → F.given line ≡ none
-unfolding F.given F.givenOf
-given-ones-high [] p q l h = refl
-given-ones-high (a ∷ []) p q l h = refl
-given-ones-high (a ∷ b ∷ []) p q l h = refl
-given-ones-high (a ∷ b ∷ c ∷ s) p q l h = rw (le-leb 48 a p, le-leb a 57 q, le-leb 48 b l, lt-leb b 57 h)
+pub head-tens-low : (line : Bytes) → getD line 0 0 < 48 → NoSession ≡ headOf line
+unfolding headOf
+head-tens-low [] h = refl
+head-tens-low (a ∷ []) h = refl
+head-tens-low (a ∷ b ∷ []) h = refl
+head-tens-low (a ∷ b ∷ c ∷ s) h = rw (lt-leb 48 a h)
 
-pub given-no-space : (line : Bytes) → 48 ≤ getD line 0 0 → getD line 0 0 ≤ 57 → 48 ≤ getD line 1 0 → getD line 1 0 ≤ 57 → (getD line 2 0 ≡ 32 → ⊥) → F.given line ≡ none
-unfolding F.given F.givenOf
-given-no-space [] p q l h n = refl
-given-no-space (a ∷ []) p q l h n = refl
-given-no-space (a ∷ b ∷ []) p q l h n = refl
-given-no-space (a ∷ b ∷ c ∷ s) p q l h n = rw (le-leb 48 a p, le-leb a 57 q, le-leb 48 b l, le-leb b 57 h, ne-eqb c 32 n)
+pub head-tens-high : (line : Bytes) → 48 ≤ getD line 0 0 → 57 < getD line 0 0 → NoSession ≡ headOf line
+unfolding headOf
+head-tens-high [] l h = refl
+head-tens-high (a ∷ []) l h = refl
+head-tens-high (a ∷ b ∷ []) l h = refl
+head-tens-high (a ∷ b ∷ c ∷ s) l h = rw (le-leb 48 a l, lt-leb a 57 h)
 
--- A LINE WHOSE HEAD HAS THE FORM
-pub given-headed : (line : Bytes) → 5 ≤ length line → length line ≤ 8195 → 48 ≤ getD line 0 0 → getD line 0 0 ≤ 57 → 48 ≤ getD line 1 0 → getD line 1 0 ≤ 57 → getD line 2 0 ≡ 32
-    → Headed line ((getD line 0 0 - 48) * 10 + (getD line 1 0 - 48))
-unfolding F.given
-given-headed [] least most p q l h e = absurd (omega arith)
-given-headed (a ∷ []) least most p q l h e = absurd (omega arith)
-given-headed (a ∷ b ∷ []) least most p q l h e = absurd (omega arith)
-given-headed (a ∷ b ∷ c ∷ s) least most p q l h e =
-    record { least = least; most = most; is = rw (le-leb 48 a p, le-leb a 57 q, le-leb 48 b l, le-leb b 57 h, eq-eqb c 32 e) }
+pub head-ones-low : (line : Bytes) → 48 ≤ getD line 0 0 → getD line 0 0 ≤ 57 → getD line 1 0 < 48 → NoSession ≡ headOf line
+unfolding headOf
+head-ones-low [] p q h = refl
+head-ones-low (a ∷ []) p q h = refl
+head-ones-low (a ∷ b ∷ []) p q h = refl
+head-ones-low (a ∷ b ∷ c ∷ s) p q h = rw (le-leb 48 a p, le-leb a 57 q, lt-leb 48 b h)
+
+pub head-ones-high : (line : Bytes) → 48 ≤ getD line 0 0 → getD line 0 0 ≤ 57 → 48 ≤ getD line 1 0 → 57 < getD line 1 0 → NoSession ≡ headOf line
+unfolding headOf
+head-ones-high [] p q l h = refl
+head-ones-high (a ∷ []) p q l h = refl
+head-ones-high (a ∷ b ∷ []) p q l h = refl
+head-ones-high (a ∷ b ∷ c ∷ s) p q l h = rw (le-leb 48 a p, le-leb a 57 q, le-leb 48 b l, lt-leb b 57 h)
+
+pub head-no-space : (line : Bytes) → 48 ≤ getD line 0 0 → getD line 0 0 ≤ 57 → 48 ≤ getD line 1 0 → getD line 1 0 ≤ 57 → (getD line 2 0 ≡ 32 → ⊥) → NoSession ≡ headOf line
+unfolding headOf
+head-no-space [] p q l h n = refl
+head-no-space (a ∷ []) p q l h n = refl
+head-no-space (a ∷ b ∷ []) p q l h n = refl
+head-no-space (a ∷ b ∷ c ∷ s) p q l h n = rw (le-leb 48 a p, le-leb a 57 q, le-leb 48 b l, le-leb b 57 h, ne-eqb c 32 n)
+
+pub head-is : (line : Bytes) → 5 ≤ length line → length line ≤ 8195 → 48 ≤ getD line 0 0 → getD line 0 0 ≤ 57 → 48 ≤ getD line 1 0 → getD line 1 0 ≤ 57 → getD line 2 0 ≡ 32
+    → Session ((getD line 0 0 - 48) * 10 + (getD line 1 0 - 48)) ≡ headOf line
+unfolding headOf
+head-is [] least most p q l h e = absurd (omega arith)
+head-is (a ∷ []) least most p q l h e = absurd (omega arith)
+head-is (a ∷ b ∷ []) least most p q l h e = absurd (omega arith)
+head-is (a ∷ b ∷ c ∷ s) least most p q l h e =
+    rw (le-leb 48 a p, le-leb a 57 q, le-leb 48 b l, le-leb b 57 h, eq-eqb c 32 e, le-leb 2 (length s) (omega arith), le-leb (length s) 8192 (omega arith))
+
+-- WHAT THE HEAD TELLS
+-- a line whose first three bytes and whose length have the form
+pub record Headed (line : Bytes) (i : ℕ) : Type 0 where
+  pub least : 5 ≤ length line
+  pub most : length line ≤ 8195
+  pub is : F.given line ≡ F.givenOf true i (F.unhex (drop 3 line))
+
+head-session : (line : Bytes) (i : ℕ) → headOf line ≡ Session i → Headed line i
+unfolding headOf F.given
+head-session [] i e = let z : _≡_ {A = ℕ} 0 1 = cc in absurd (omega arith)
+head-session (a ∷ []) i e = let z : _≡_ {A = ℕ} 0 1 = cc in absurd (omega arith)
+head-session (a ∷ b ∷ []) i e = let z : _≡_ {A = ℕ} 0 1 = cc in absurd (omega arith)
+head-session (a ∷ b ∷ c ∷ s) i e = go (F.isDigit a && F.isDigit b && eqb c 32) (leb 2 (length s)) (leb (length s) 8192) refl refl refl e
+  where
+    go : (t u v : Bool) → F.isDigit a && F.isDigit b && eqb c 32 ≡ t → leb 2 (length s) ≡ u → leb (length s) 8192 ≡ v → cond (t && u && v) (Session ((a - 48) * 10 + (b - 48))) NoSession ≡ Session i
+        → Headed (a ∷ b ∷ c ∷ s) i
+    go true true true t u v e =
+        let same : (a - 48) * 10 + (b - 48) ≡ i = cc in
+        record { least = omega (arith, leb-true 2 (length s) u); most = omega (arith, leb-true (length s) 8192 v); is = (λ z. F.givenOf (t z) (same z) (F.unhex s)) }
+    go true true false t u v e = let z : _≡_ {A = ℕ} 0 1 = cc in absurd (omega arith)
+    go true false w t u v e = let z : _≡_ {A = ℕ} 0 1 = cc in absurd (omega arith)
+    go false y w t u v e = let z : _≡_ {A = ℕ} 0 1 = cc in absurd (omega arith)
+
+head-none : (line : Bytes) → headOf line ≡ NoSession → F.given line ≡ none
+unfolding headOf F.given
+head-none [] e = refl
+head-none (a ∷ []) e = refl
+head-none (a ∷ b ∷ []) e = refl
+head-none (a ∷ b ∷ c ∷ s) e = go (F.isDigit a && F.isDigit b && eqb c 32) (leb 2 (length s)) (leb (length s) 8192) refl refl e
+  where
+    i : ℕ
+    i = (a - 48) * 10 + (b - 48)
+
+    go : (t u v : Bool) → leb 2 (length s) ≡ u → leb (length s) 8192 ≡ v → cond (t && u && v) (Session i) NoSession ≡ NoSession → F.givenOf t i (F.unhex s) ≡ none
+    go true true true u v e = let z : _≡_ {A = ℕ} 0 1 = cc in absurd (omega arith)
+    go true true false u v e = given-long true i s (leb-false (length s) 8192 v)
+    go true false w u v e = given-short true i s (leb-false 2 (length s) u)
+    go false y w u v e = given-other i (F.unhex s)
+
+pub headed : (line : Bytes) (r : Head) → r ≡ headOf line → (i : ℕ) → r ≡ Session i → Headed line i
+headed line r read i e = head-session line i (sym read ∙ e)
+
+pub not-given : (line : Bytes) (r : Head) → r ≡ headOf line → r ≡ NoSession → F.given line ≡ none
+not-given line r read e = head-none line (sym read ∙ e)
 
 -- WHAT READING A LINE LEAVES
-pub headed : (line : Bytes) (r : Head) → HeadRead line r → (i : ℕ) → r ≡ Session i → Headed line i
-unfolding HeadRead
-headed line r read i e = rw e at read
-
-pub not-given : (line : Bytes) (r : Head) → HeadRead line r → r ≡ NoSession → F.given line ≡ none
-unfolding HeadRead
-not-given line r read e = rw e at read
-
 count-none : (o : Option Bytes) → countOf o ≡ NoBytes → o ≡ none
 count-none none e = refl
 count-none (some s) e = let z : _≡_ {A = ℕ} 0 1 = cc in absurd (omega arith)
@@ -132,20 +188,20 @@ back-is n whole part =
     ap (λ (l : Bytes). take n whole ++ (part ++ l)) (drop-of-length-le (drop n whole) {i = length whole - n} (simp length-drop (omega arith))) ∙ rw append-nil refl
 
 -- what the call of `decode` asks
-pub behind-head : (line : Bytes) {r : Head} {i : ℕ} → HeadRead line r → r ≡ Session i → 3 ≤ length line
+pub behind-head : (line : Bytes) {r : Head} {i : ℕ} → r ≡ headOf line → r ≡ Session i → 3 ≤ length line
 behind-head line {r} {i} read told = omega (arith, headed line r read i told .least)
 
-pub digits-fit : (line : Bytes) (at : ℕ) (entry : Bytes) {r : Head} {i : ℕ} → Room at entry → HeadRead line r → r ≡ Session i → length (rest 3 line) ≤ 2 * length (rest at entry)
+pub digits-fit : (line : Bytes) (at : ℕ) (entry : Bytes) {r : Head} {i : ℕ} → Room at entry → r ≡ headOf line → r ≡ Session i → length (rest 3 line) ≤ 2 * length (rest at entry)
 digits-fit line at entry {r} {i} room read told =
     omega (arith, headed line r read i told .most, ap length (lent-is 3 line), length-drop 3 line, ap length (lent-is at entry), length-drop at entry, room .behind)
 
-pub line-malformed : (line : Bytes) (at : ℕ) (entry : Bytes) {r : Head} → HeadRead line r → r ≡ NoSession → LineRead line at entry Malformed entry
+pub line-malformed : (line : Bytes) (at : ℕ) (entry : Bytes) {r : Head} → r ≡ headOf line → r ≡ NoSession → LineRead line at entry Malformed entry
 line-malformed line at entry {r} read e =
     let g = not-given line r read e in
     let start : at + 0 ≡ at = omega arith in
     record { answer = rw g; held = rw g (ap (λ (n : ℕ). take n entry) start ∙ sym (append-nil (take at entry))); size = refl }
 
-module _ (line : Bytes) (at : ℕ) (entry : Bytes) {r : Head} {d : Decoded} {i : ℕ} {last : Bytes} (room : Room at entry) (read : HeadRead line r) (told : r ≡ Session i) (dec : Decodes (rest 3 line) (rest at entry) d last) where
+module _ (line : Bytes) (at : ℕ) (entry : Bytes) {r : Head} {d : Decoded} {i : ℕ} {last : Bytes} (room : Room at entry) (read : r ≡ headOf line) (told : r ≡ Session i) (dec : Decodes (rest 3 line) (rest at entry) d last) where
   given-is : F.given line ≡ F.givenOf true i (F.unhex (rest 3 line))
   given-is = headed line r read i told .is ∙ ap (λ (l : Bytes). F.givenOf true i (F.unhex l)) (sym (lent-is 3 line))
 

@@ -1,23 +1,28 @@
 -- Which requests drop the rest. Assumes nothing.
-use Prim.Native.Nat.{ℕ, _/_}
+use Prim.Native.Nat.{ℕ, _/_, _<_}
 use native.Mathlib.Omega.{arith}
 use mathlib.Core.Path.{_≡_, refl, sym, ap, _∙_}
 use mathlib.Core.Bool.{Bool, true, false}
-use mathlib.Core.List.{List, [], _∷_}
+use mathlib.Core.List.{List, [], _∷_, map}
 use lib.ListN.{length, take, getD}
 use lib.Seq.{getD-take}
+use borrow.Author.Tests.{lt-ltb}
 use Rattle.key.specs.Bytes.{Bytes}
-use Rattle.resp.specs.declared.Fault.{Fault}
 use Rattle.resp.specs.declared.Span.{Span}
-use Rattle.resp.specs.declared.Read.{Read}
-use Rattle.resp.specs.declared.Read.the-variants.{Wait, Faulty, TooMany, Whole}
-use Rattle.resp.specs.Request.{Reading, waits, faulty, tooMany, whole, readRequest, spanned, readAnswer}
-use Rattle.resp.specs.Steps.{spanWords, argumentWords, ReadIs}
+use Rattle.resp.specs.Request.{Reading, waits, faulty, tooMany, whole, readRequest, spanned}
+use Rattle.resp.specs.Steps.{spanWords, argumentWords}
 use Rattle.server.specs.declared.names.Control.{Control as Said}
 use Rattle.server.specs.Names.{rowOf, Row, Control, MULTI, EXEC, DISCARD, WATCH, UNWATCH, QUIT, other, controlOf}
 use Rattle.server.specs.Rows.{rowAt, Looked, controlSaid}
+use Rattle.server.specs.declared.Answer.{Answer}
+use Rattle.server.specs.Session.{Session, clear, says, respond}
+use Rattle.memtable.specs.Versions.{Store}
+use Rattle.calls.specs.Serve.{protocolError, serveReading, serve, answered}
+use Rattle.calls.specs.Calls.{Lent, Called, valid, storeOf, sessionOf, request-call, answerOf, RequestPromise, TablePromise}
 use Rattle.calls.specs.Frames.{closes}
-use Rattle.lines.specs.Quit.{isQuit, quitsSaid, quits}
+use Rattle.calls.proofs.LentLaws.{request-served}
+use Rattle.lines.specs.Quit.{isQuit, quitsSaid, quits, firstSpan, Drops, Told}
+use Rattle.lines.proofs.UsedLaws.{finish-full}
 
 pub quits-is : (word : Bytes) {row : ℕ} (r : Said) {b : Bool} → Looked word row → controlSaid r ≡ controlOf (rowAt row .name) → b ≡ quitsSaid r → b ≡ quits word
 unfolding quits
@@ -44,38 +49,8 @@ whole-quits : (s : Bytes) (p : Span) (ps : List Span) (used : ℕ) → quits (sp
 unfolding closes quits
 whole-quits s p ps used = by-control (controlOf (rowOf (spanned s p) .name))
 
--- BY THE ANSWER of the reader
-wait-closes : (s : Bytes) (x : Reading) → Wait ≡ readAnswer x → false ≡ closes s x
-unfolding closes
-wait-closes s waits e = refl
-wait-closes s (faulty f) e = let z : _≡_ {A = ℕ} 0 1 = cc in absurd (omega arith)
-wait-closes s tooMany e = refl
-wait-closes s (whole ps used) e = let z : _≡_ {A = ℕ} 0 1 = cc in absurd (omega arith)
-
-faulty-closes : (s : Bytes) (x : Reading) {f : Fault} → Faulty f ≡ readAnswer x → true ≡ closes s x
-unfolding closes
-faulty-closes s waits e = let z : _≡_ {A = ℕ} 0 1 = cc in absurd (omega arith)
-faulty-closes s (faulty f) e = refl
-faulty-closes s tooMany e = let z : _≡_ {A = ℕ} 0 1 = cc in absurd (omega arith)
-faulty-closes s (whole ps used) e = let z : _≡_ {A = ℕ} 0 1 = cc in absurd (omega arith)
-
-many-closes : (s : Bytes) (x : Reading) → TooMany ≡ readAnswer x → false ≡ closes s x
-unfolding closes
-many-closes s waits e = refl
-many-closes s (faulty f) e = let z : _≡_ {A = ℕ} 0 1 = cc in absurd (omega arith)
-many-closes s tooMany e = refl
-many-closes s (whole ps used) e = let z : _≡_ {A = ℕ} 0 1 = cc in absurd (omega arith)
-
-empty-closes : (s : Bytes) (x : Reading) {n used : ℕ} → Whole n used ≡ readAnswer x → n ≡ 0 → false ≡ closes s x
-unfolding closes
-empty-closes s waits e z = refl
-empty-closes s (faulty f) e h = let z : _≡_ {A = ℕ} 0 1 = cc in absurd (omega arith)
-empty-closes s tooMany e z = refl
-empty-closes s (whole [] used) e z = refl
-empty-closes s (whole (p ∷ ps) used) {n} e h = let k : n ≡ length (p ∷ ps) = cc in absurd (omega arith)
-
 -- the first argument's part stands in front of the table
-first-words : (table : List ℕ) (p : Span) (ps : List Span) → take (length (spanWords (p ∷ ps))) table ≡ spanWords (p ∷ ps) → record { start = getD table 0 0; len = getD table 1 0 } ≡ p
+first-words : (table : List ℕ) (p : Span) (ps : List Span) → take (length (spanWords (p ∷ ps))) table ≡ spanWords (p ∷ ps) → firstSpan table ≡ p
 unfolding spanWords
 first-words table p ps e =
     let n = length (p .start ∷ p .len ∷ spanWords ps) in
@@ -83,34 +58,38 @@ first-words table p ps e =
     let len : getD table 1 0 ≡ p .len = sym (getD-take n table 1 0 (omega arith)) ∙ ap (λ (l : List ℕ). getD l 1 0) e in
     λ z. record { start = start z; len = len z }
 
-first-closes : (s : Bytes) (x : Reading) (table : List ℕ) {n used : ℕ} → Whole n used ≡ readAnswer x → (n ≡ 0 → ⊥) → take (length (argumentWords x)) table ≡ argumentWords x
-    → quits (spanned s (record { start = getD table 0 0; len = getD table 1 0 })) ≡ closes s x
-unfolding argumentWords
-first-closes s waits table e nz f = let z : _≡_ {A = ℕ} 0 1 = cc in absurd (omega arith)
-first-closes s (faulty g) table e nz f = let z : _≡_ {A = ℕ} 0 1 = cc in absurd (omega arith)
-first-closes s tooMany table e nz f = let z : _≡_ {A = ℕ} 0 1 = cc in absurd (omega arith)
-first-closes s (whole [] used) table {n} e nz f = let k : n ≡ 0 = cc in absurd (nz k)
-first-closes s (whole (p ∷ ps) used) table e nz f = ap (λ (x : Span). quits (spanned s x)) (first-words table p ps f) ∙ whole-quits s p ps used
+-- BY WHAT WAS READ
+drops-by : (room : ℕ) (s : Bytes) (x : Reading) (st : Store) (i : Session) (table : List ℕ) → take (length (argumentWords x)) table ≡ argumentWords x
+    → serveReading room s x st i .number ≡ 0 → (serveReading room s x st i .used ≡ 0 → ⊥) → Drops s x (serveReading room s x st i .used) (length (serveReading room s x st i .reply)) table
+unfolding serveReading argumentWords closes
+drops-by room s waits st i table f n u = absurd (u refl)
+drops-by room s tooMany st i table f n u = absurd (omega arith)
+drops-by room s (faulty g) st i table f n u =
+    let q = finish-full room (length s) (says (protocolError s g) st clear) st i n u in
+    record { unanswered = λ h _. absurd (omega (arith, q .all-used)); named = λ h _. absurd (omega (arith, q .all-used)) }
+drops-by room s (whole [] used) st i table f n u = record { unanswered = λ _ _. refl; named = λ _ z. absurd (z refl) }
+drops-by room s (whole (p ∷ ps) used) st i table f n u =
+    let q = finish-full room used (respond (map (spanned s) (p ∷ ps)) st i) st i n u in
+    record { unanswered = λ _ z. absurd (omega (arith, q .some-reply)); named = λ _ _. ap (λ (x : Span). quits (spanned s x)) (first-words table p ps f) ∙ whole-quits s p ps used }
 
--- the reader was lent 1,024 places
-module _ (s : Bytes) (n : ℕ) {r : Read} {table : List ℕ} (lent : n ≡ 2048) (is : ReadIs (readRequest (n / 2) s) r table) where
-  same : readRequest (n / 2) s ≡ readRequest 1024 s
-  same = let half : n / 2 ≡ 1024 = omega arith in ap (λ (k : ℕ). readRequest k s) half
+-- THE ANSWER of a request call with 1,024 places, and the argument table that it leaves
+pub table-told : {i : ℕ} {s : Bytes} {l l′ : Lent} {buffer buffer′ : Bytes} {r : Answer} (t : List ℕ) {t′ : List ℕ} → i < 16 → valid l ≡ true → length t ≡ 2048
+    → RequestPromise i s (length t / 2) buffer l r buffer′ l′ → TablePromise i s l t t′ → Told s r t′
+unfolding serve
+table-told {i} {s} {l} {l′} {buffer} {buffer′} {r} t {t′} below fit size p q = record {
+  drops = λ n u.
+      let y = drops-by (length buffer) s (readRequest 1024 s) (storeOf l) (sessionOf i l) t′ front (sym (ap (λ (a : Answer). a .number) is) ∙ n) (λ z. u (ap (λ (a : Answer). a .used) is ∙ z)) in
+      record {
+        unanswered = λ h z. y .unanswered (omega (arith, ap (λ (a : Answer). a .used) is)) (sym (ap (λ (a : Answer). a .reply) is) ∙ z);
+        named = λ h z. y .named (omega (arith, ap (λ (a : Answer). a .used) is)) (λ k. z (ap (λ (a : Answer). a .reply) is ∙ k));
+      };
+}
+  where
+    half : length t / 2 ≡ 1024
+    half = omega arith
 
-  at-last : {b : Bool} → b ≡ closes s (readRequest (n / 2) s) → b ≡ closes s (readRequest 1024 s)
-  at-last e = e ∙ ap (closes s) same
+    is : r ≡ answerOf (answered (serve 1024 (length buffer) s (storeOf l) (sessionOf i l)))
+    is = p .answer ∙ ap (λ (k : ℕ). answerOf (request-call i s k (length buffer) l .outcome)) half ∙ ap (λ (c : Called). answerOf (c .outcome)) (request-served i s 1024 (length buffer) l below fit)
 
-  pub closes-wait : r ≡ Wait → false ≡ closes s (readRequest 1024 s)
-  closes-wait e = at-last (wait-closes s (readRequest (n / 2) s) (sym e ∙ is .answer))
-
-  pub closes-faulty : {f : Fault} → r ≡ Faulty f → true ≡ closes s (readRequest 1024 s)
-  closes-faulty e = at-last (faulty-closes s (readRequest (n / 2) s) (sym e ∙ is .answer))
-
-  pub closes-many : r ≡ TooMany → false ≡ closes s (readRequest 1024 s)
-  closes-many e = at-last (many-closes s (readRequest (n / 2) s) (sym e ∙ is .answer))
-
-  pub closes-empty : {k used : ℕ} → r ≡ Whole k used → k ≡ 0 → false ≡ closes s (readRequest 1024 s)
-  closes-empty e z = at-last (empty-closes s (readRequest (n / 2) s) (sym e ∙ is .answer) z)
-
-  pub closes-first : {k used : ℕ} {word : Bytes} {b : Bool} → r ≡ Whole k used → (k ≡ 0 → ⊥) → word ≡ spanned s (record { start = getD table 0 0; len = getD table 1 0 }) → b ≡ quits word → b ≡ closes s (readRequest 1024 s)
-  closes-first e nz w b = b ∙ ap quits w ∙ at-last (first-closes s (readRequest (n / 2) s) table (sym e ∙ is .answer) nz (is .front))
+    front : take (length (argumentWords (readRequest 1024 s))) t′ ≡ argumentWords (readRequest 1024 s)
+    front = rw half at (q .parts (lt-ltb i 16 below) fit)

@@ -5,9 +5,9 @@ use native.Mathlib.Omega.{arith}
 use mathlib.Core.Path.{_≡_, refl, sym, ap, _∙_}
 use mathlib.Core.Bool.{Bool, true, false, cond}
 use mathlib.Core.List.{List, [], _∷_, _++_, append-assoc, append-nil}
-use lib.Dec.{eqb, ltb}
-use lib.ListN.{length, take, drop, getD, set, replicate, length-drop, length-append}
-use lib.Seq.{ext-getD, set-getD, take-at}
+use lib.Dec.{ltb}
+use lib.ListN.{length, take, drop, getD, replicate, length-drop, length-append, replicate-append-replicate}
+use lib.Seq.{ext-getD, set-getD, take-at, drop-at}
 use borrow.Author.Tests.{ltb-true, eq-eqb, ne-eqb, lt-ltb, le-ltb}
 use Rattle.key.specs.Bytes.{Bytes, bytes}
 use Rattle.number.specs.Decimal.{digits, digitsWithin}
@@ -17,15 +17,17 @@ use Rattle.server.specs.declared.Answer.{Answer}
 use Rattle.server.specs.Session.{Session, clear}
 use Rattle.server.specs.Finish.{replyBuffer}
 use Rattle.calls.specs.Serve.{State, Outcome, Stepped, requestOn, serve, serveReading, refused}
-use Rattle.calls.specs.Calls.{Lent, Called, valid, sessionOf, request-call, answerOf, RequestPromise}
+use Rattle.calls.specs.Calls.{Lent, Called, valid, storeOf, sessionOf, request-call, answerOf, RequestPromise}
 use Rattle.calls.specs.Frames.{Frame, stops, requests, closes, hex}
 use Rattle.calls.proofs.StateLaws.{Represents, request-same}
 use Rattle.calls.proofs.LentLaws.{request-refused, request-served, request-leaves}
+use Rattle.calls.proofs.Refusals.{refusals}
 use Rattle.lines.specs.declared.pieces.Mark.{Mark}
 use Rattle.lines.specs.declared.pieces.Mark.the-variants.{NoMark, Number}
 use Rattle.lines.specs.Pieces.{numberText, markText}
 use Rattle.lines.specs.Served.{listed, stateIn, behind, requestsLeft, orSome, Serving, FrameServed}
 use Rattle.lines.proofs.AnswerLaws.{hex-append}
+use Rattle.lines.proofs.UsedLaws.{serve-silent}
 
 -- A LIST BY ITS PLACES
 pub listed-length : {A : Type 0} (f : ℕ → A) (n i : ℕ) → length (listed f n i) ≡ n
@@ -229,7 +231,7 @@ module _ {i : ℕ} {s : Bytes} {l l′ : Lent} {buffer buffer′ : Bytes} {r : A
   state-left : stateIn l′ ≡ first i s (stateIn l) .state
   state-left = ap stateIn (p .lent ∙ ap (λ (c : Called). c .lent) at-room) ∙ call-state i s l fit
 
-  left-fit : valid l′ ≡ true
+  pub left-fit : valid l′ ≡ true
   left-fit = ap valid (p .lent ∙ ap (λ (c : Called). c .lent) at-room) ∙ call-fit i s l fit
 
   number-is : r .number ≡ first i s (stateIn l) .outcome .number
@@ -250,6 +252,37 @@ module _ {i : ℕ} {s : Bytes} {l l′ : Lent} {buffer buffer′ : Bytes} {r : A
       ∙ take-at (o .reply) (replicate (length buffer - length (o .reply)) 0) (r .reply) (sym (ap (λ (a : Answer). a .reply) (p .answer)))
       ∙ ap (λ (c : Called). c .outcome .reply) at-room
       ∙ ap (λ (c : Outcome). c .reply) (call-outcome i s l fit)
+
+  -- THE REPLY BUFFER is zero behind the reply
+  zero-behind : drop (r .reply) buffer′ ≡ replicate (length buffer - r .reply) 0
+  unfolding replyBuffer
+  zero-behind =
+      let o = request-call i s 1024 (length buffer) l .outcome in
+      let size : length (o .reply) ≡ r .reply = sym (ap (λ (a : Answer). a .reply) (p .answer)) in
+      ap (drop (r .reply)) (p .reply)
+      ∙ drop-at (o .reply) (replicate (length buffer - length (o .reply)) 0) (r .reply) size
+      ∙ ap (λ (k : ℕ). replicate (length buffer - k) 0) size
+
+  -- and all zero again with zeros in its place
+  pub cleared-again : {buffer″ : Bytes} → length buffer′ ≡ length buffer → buffer″ ≡ replicate (r .reply) 0 ++ drop (r .reply) buffer′ → buffer″ ≡ replicate (length buffer) 0
+  cleared-again same e =
+      let sum : r .reply + (length buffer - r .reply) ≡ length buffer = omega (arith, reply-short p same) in
+      e ∙ ap (λ (x : Bytes). replicate (r .reply) 0 ++ x) zero-behind ∙ replicate-append-replicate (r .reply) (length buffer - r .reply) 0 ∙ ap (λ (k : ℕ). replicate k 0) sum
+
+  no-reply : request-call i s 1024 (length buffer) l .outcome .reply ≡ [] → buffer′ ≡ replicate (length buffer) 0
+  unfolding replyBuffer
+  no-reply e = let all : length buffer - 0 ≡ length buffer = omega arith in p .reply ∙ ap (replyBuffer (length buffer)) e ∙ ap (λ (k : ℕ). replicate k 0) all
+
+  -- a number and a wait have no reply
+  pub cleared-number : (r .number ≡ 0 → ⊥) → buffer′ ≡ replicate (length buffer) 0
+  cleared-number n = no-reply (refusals .requests i s 1024 (length buffer) l (λ e. n (ap (λ (a : Answer). a .number) (p .answer) ∙ e)) .refusal .reply)
+
+  pub cleared-waits : r .used ≡ 0 → buffer′ ≡ replicate (length buffer) 0
+  cleared-waits u =
+      let c = request-served i s 1024 (length buffer) l below fit in
+      let d = serve 1024 (length buffer) s (storeOf l) (sessionOf i l) in
+      let none : d .used ≡ 0 = ap (λ (x : Called). x .outcome .used) (sym c) ∙ sym (ap (λ (a : Answer). a .used) (p .answer)) ∙ u in
+      no-reply (ap (λ (x : Called). x .outcome .reply) c ∙ serve-silent 1024 (length buffer) s (storeOf l) (sessionOf i l) some-bytes none)
 
   one-more : length s ≡ suc (length s - 1)
   one-more = omega arith

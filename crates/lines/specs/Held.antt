@@ -10,7 +10,7 @@ use Rattle.calls.specs.Frames as F
 use Rattle.lines.specs.declared.line.Given.{Given}
 use Rattle.lines.specs.declared.rest.Kept.{Kept}
 use Rattle.lines.specs.Line.{givenAs}
-use Rattle.lines.specs.Rest.{keptOf, restOf}
+use Rattle.lines.specs.Rest.{keptOf, heldOf, restOf}
 use Rattle.lines.specs.Served.{listed}
 
 -- what is lent
@@ -52,5 +52,5 @@ pub record RestAt (i from to : ℕ) : Type 0 where
 pub record RestKept (i from to : ℕ) (counts : List ℕ) (held : Bytes) (r : Kept) (counts′ : List ℕ) (held′ : Bytes) : Type 0 where
   pub answer : r ≡ keptOf (to - from)
   pub rests : restsIn counts′ held′ ≡ set (restsIn counts held) i (restOf (part (i * 8192 + from) (to - from) held))
-  pub words : length counts′ ≡ length counts
+  pub words : counts′ ≡ set counts i (heldOf r)
   pub bytes : length held′ ≡ length held

@@ -1,10 +1,11 @@
--- What the code says of an input line, in terms of `given` of the registry's definitions.
-use Prim.Native.Nat.{ℕ, _+_, _*_, _≤_}
-use mathlib.Core.List.{[], _++_}
+-- What the code says of an input line, in terms of `given` of `calls`.
+use Prim.Native.Nat.{ℕ, _+_, _-_, _*_, _≤_}
+use mathlib.Core.List.{[], _∷_, _++_}
 use mathlib.Core.Option.{Option, none, some}
-use mathlib.Core.Bool.{true}
+use mathlib.Core.Bool.{cond, _&&_}
 use mathlib.Core.Path.{_≡_}
-use lib.ListN.{length, take, drop}
+use lib.Dec.{leb, eqb}
+use lib.ListN.{length, take}
 use Rattle.key.specs.Bytes.{Bytes}
 use Rattle.calls.specs.Frames as F
 use Rattle.lines.specs.declared.line.Given.{Given}
@@ -43,16 +44,13 @@ pub record Decodes (text entry : Bytes) (r : Decoded) (exit : Bytes) : Type 0 wh
   pub front : take (length (orNothing (F.unhex text))) exit ≡ orNothing (F.unhex text)
   pub size : length exit ≡ length entry
 
--- a line whose first three bytes and whose length have the form
-pub record Headed (line : Bytes) (i : ℕ) : Type 0 where
-  pub least : 5 ≤ length line
-  pub most : length line ≤ 8195
-  pub is : F.given line ≡ F.givenOf true i (F.unhex (drop 3 line))
-
--- what the head of a line tells
-unfoldable pub HeadRead : Bytes → Head → Type 0
-HeadRead line NoSession = F.given line ≡ none
-HeadRead line (Session i) = Headed line i
+-- the session of a line whose first three bytes and whose length have the form
+unfoldable pub headOf : Bytes → Head
+headOf [] = NoSession
+headOf (a ∷ []) = NoSession
+headOf (a ∷ b ∷ []) = NoSession
+headOf (a ∷ b ∷ c ∷ s) =
+    cond (F.isDigit a && F.isDigit b && eqb c 32 && leb 2 (length s) && leb (length s) 8192) (Session ((a - 48) * 10 + (b - 48))) NoSession
 
 -- what is lent: 4,096 bytes at least behind the `at` bytes that are held
 pub record Room (at : ℕ) (held : Bytes) : Type 0 where

@@ -3,7 +3,7 @@ ghost use mathlib.Core.Path.{_≡_};
 ghost use Prim.Native.Nat.{_+_, _*_, _≤_};
 ghost use lib.ListN.{length};
 ghost use Rattle.calls.specs.Frames.{hexValue};
-ghost use Rattle.lines.specs.Line.{orSixteen, pairOf, Decodes, HeadRead, Room, LineRead};
+ghost use Rattle.lines.specs.Line.{orSixteen, pairOf, Decodes, headOf, Room, LineRead};
 
 // A line of the form, with its session and the count of its bytes; or a line of another form.
 pub enum Given {
@@ -87,7 +87,7 @@ fn decode(text: &[u8], out: &mut [u8]) -> Decoded
 
 // The session of a line of 2 to 8,192 digits behind two decimal digits and a space.
 pub fn read_head(line: &[u8]) -> Head
-    ensures { λ r. ⌜ HeadRead (now (line .entry)) r ⌝ }
+    ensures { λ r. ⌜ r ≡ headOf (now (line .entry)) ⌝ }
 {
     if line.len() < 5 {
         return Head::NoSession;

@@ -3,7 +3,7 @@ use decimal::digits;
 use writing::Put;
 ghost use mathlib.Core.Path.{_≡_};
 ghost use Prim.Native.Nat.{_/_, _%_, _<_};
-ghost use Rattle.writing.specs.Puts.{Puts, Adds};
+ghost use Rattle.writing.specs.Puts.{Puts};
 ghost use Rattle.calls.specs.Frames.{hex, hexDigit};
 ghost use Rattle.lines.specs.Pieces.{headText, numberText, markOrDash, endText, malformedText};
 
@@ -54,15 +54,6 @@ pub fn put_hex(out: &mut [u8], reply: &[u8]) -> Put
         i += 1;
     }
     Put::Wrote(i * 2)
-}
-
-// Writes it behind what was put.
-pub fn then_hex(out: &mut [u8], put: Put, reply: &[u8]) -> Put
-    ensures { λ r. ⌜ Adds (hex (now (reply .entry))) put (now (out .entry)) r (now (out .exit)) ⌝ }
-{
-    let at = writing::place(put, out.len());
-    let next = put_hex(&mut out[at..], reply);
-    writing::joined(out, put, next)
 }
 
 // Writes the two digits of a session and a space.

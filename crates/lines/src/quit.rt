@@ -1,14 +1,12 @@
-// Whether a request drops the rest of its frame: QUIT and a protocol error do.
-use parse::request;
-use resp::Read;
+// Whether a request is QUIT, which drops the rest of its frame.
 use resp::Span;
 use server::names;
 use server::names::Control;
 ghost use mathlib.Core.Path.{_≡_};
+ghost use Prim.Native.Nat.{_≤_};
 ghost use lib.ListN.{length};
-ghost use Rattle.resp.specs.Request.{readRequest};
-ghost use Rattle.calls.specs.Frames.{closes};
-ghost use Rattle.lines.specs.Quit.{quitsSaid, quits};
+ghost use Rattle.resp.specs.Request.{spanned};
+ghost use Rattle.lines.specs.Quit.{quitsSaid, quits, firstSpan};
 
 fn is_quit(control: Control) -> bool
     ensures { λ r. ⌜ r ≡ quitsSaid control ⌝ }
@@ -32,22 +30,12 @@ fn names_quit(word: &[u8]) -> bool
     is_quit(names::control_at(row))
 }
 
-// Whether the request at the front of `input`, read with 1,024 argument places, drops the rest.
-pub fn closes(input: &[u8], places: &mut [u64]) -> bool
-    requires { ⌜ length (now places) ≡ 2048 ⌝ }
-    ensures { λ r. ⌜ r ≡ closes (now (input .entry)) (readRequest 1024 (now (input .entry))) ⌝ }
+// Whether the first argument, whose place stands in front of `places`, is QUIT.
+pub fn first_quits(input: &[u8], places: &[u64]) -> bool
+    requires { ⌜ 2 ≤ length (now places) ⌝ }
+    ensures { λ r. ⌜ r ≡ quits (spanned (now (input .entry)) (firstSpan (now (places .entry)))) ⌝ }
 {
-    match request::read(input, places) {
-        Read::Wait => false,
-        Read::Faulty(_) => true,
-        Read::TooMany => false,
-        Read::Whole(count, _) => {
-            if count == 0 {
-                return false;
-            }
-            let start = places[0] as usize;
-            let len = places[1] as usize;
-            names_quit(refusal::part_of(input, Span { start, len }))
-        }
-    }
+    let start = places[0] as usize;
+    let len = places[1] as usize;
+    names_quit(refusal::part_of(input, Span { start, len }))
 }

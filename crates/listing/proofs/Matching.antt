@@ -9,7 +9,7 @@ use lib.Seq.{take-all, take-nil, drop-nil, length-take-le}
 use Rattle.key.specs.Bytes.{Bytes}
 use Rattle.writing.specs.declared.Put.{Put}
 use Rattle.writing.specs.Puts.{Puts, Adds}
-use Rattle.writing.proofs.Puts.{same-text, length-kept}
+use Rattle.writing.proofs.Puts.{same-text}
 use Rattle.resp.specs.Reply.{Reply, BulkString, array, head, encode}
 use Rattle.encode.proofs.Replies.{Listed, listed-none, listed-more, listed-all}
 use Rattle.memtable.specs.declared.Found.{Found}
@@ -151,12 +151,6 @@ module _ {w b p : List ℕ} {from count i left : ℕ} {put next : Put} {entry mi
 
     pub writing-end : left ≤ 0 → Puts (encode (keysReply (take count (matching p (rest w b from))))) start next mid
     writing-end h = let z : left ≡ 0 = omega arith in written-out (ap (λ (x : ℕ). take x (matching p (rest w b i))) z)
-
-    pub over-length : {o : Found} → o ≡ nextLive w b i (countWord w - i) → o ≡ Nothing → length mid ≡ length start
-    over-length is e = length-kept (writing-over is e)
-
-    pub end-length : left ≤ 0 → length mid ≡ length start
-    end-length h = length-kept (writing-end h)
 
 -- what was counted is there to be written, and is what the walk saw
 module _ {w b p : List ℕ} {from most matched next : ℕ} (seen : SeenFrom w b p from most matched next) where

@@ -19,7 +19,7 @@ use Rattle.key.proofs.Bytes.{and-left, and-right}
 use Rattle.key.proofs.Keys.{Precedes, precedes, less-is, compare-trans}
 use Rattle.writing.specs.declared.Put.{Put}
 use Rattle.writing.specs.Puts.{Puts, Adds}
-use Rattle.writing.proofs.Puts.{same-text, length-kept, follows-more}
+use Rattle.writing.proofs.Puts.{same-text, follows-more}
 use Rattle.resp.specs.Reply.{Reply, BulkString, array, items, head, encode, encodeAll}
 use Rattle.encode.proofs.Replies.{Listed, listed-none, listed-all}
 use Rattle.memtable.specs.declared.Found.{Found}
@@ -214,12 +214,6 @@ module _ {w b : List ℕ} {from count i left : ℕ} {put next : Put} {entry mid 
 
     pub pairing-end : left ≤ 0 → Puts (encode (pairsReply (take count (rest w b from)))) start next mid
     pairing-end h = let z : left ≡ 0 = omega arith in paired (ap (λ (x : ℕ). take x (rest w b i)) z)
-
-    pub over-length : {o : Found} → o ≡ nextLive w b i (countWord w - i) → o ≡ Nothing → length mid ≡ length start
-    over-length is e = length-kept (pairing-over is e)
-
-    pub end-length : left ≤ 0 → length mid ≡ length start
-    end-length h = length-kept (pairing-end h)
 
 -- so many versions there are at least
 pub count-few : (w b : List ℕ) (from : ℕ) {count : ℕ} → count ≤ length (rest w b from) → count ≤ countWord w

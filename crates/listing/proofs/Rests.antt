@@ -18,9 +18,8 @@ use Rattle.memtable.specs.declared.Found.the-variants.{At, Nothing}
 use Rattle.memtable.specs.Table.{Table, Entry, Value}
 use Rattle.memtable.specs.Versions.{table}
 use Rattle.memtable.specs.Layout.{countWord}
-use Rattle.memtable.specs.Rows.{versionsIn, RowIn, Valid}
+use Rattle.memtable.specs.Rows.{versionsIn, Valid}
 use Rattle.memtable.specs.Walk.{liveAt, entryAt, liveFrom, nextLive}
-use Rattle.memtable.proofs.Rows.{row-of}
 use Rattle.memtable.proofs.Walk.{live-table, walk-entry, walk-over}
 use Rattle.server.specs.Command.{DBSIZE, answerListing}
 use Rattle.listing.specs.Rest.{rest}
@@ -51,17 +50,6 @@ module _ (w b : List ℕ) (i : ℕ) {o : Found} (is : o ≡ nextLive w b i (coun
   rest-none e = walk-over w b i (countWord w - i) (sym is ∙ e)
 
   module _ {j : ℕ} (e : o ≡ At j) where
-    pub found-below : j < countWord w
-    found-below =
-        let f = walk-entry w b i (countWord w - i) j (sym is ∙ e) in
-        omega (arith, f .0, f .1 .0)
-
-    pub found-from : i ≤ j
-    found-from = walk-entry w b i (countWord w - i) j (sym is ∙ e) .0
-
-    pub found-row : Valid w b → RowIn w b j
-    found-row v = row-of w b j v found-below
-
     pub rest-some : rest w b i ≡ entryAt w b j ∷ rest w b (j + 1)
     unfolding rest
     rest-some =

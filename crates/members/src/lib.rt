@@ -1,6 +1,6 @@
 // The walk over a lent group: its parts are looked at first, then its members are settled one after the other.
 use batch::Member;
-use batch::inside;
+use batch::bounds;
 ghost use mathlib.Core.Path.{_≡_};
 ghost use Rattle.key.specs.Bytes.{_and_};
 ghost use Rattle.batch.specs.Members.{memberInside, membersInside};
@@ -11,7 +11,7 @@ fn inside_next(before: bool, member: Member, parts: &[u64], data: &[u8]) -> bool
     ensures { λ r. ⌜ r ≡ before and memberInside (now (parts .entry)) (now («data» .entry)) member ⌝ }
 {
     if before {
-        return inside::member_inside(member, parts, data);
+        return bounds::member_inside(member, parts, data);
     }
     false
 }

@@ -217,11 +217,6 @@ module _ {w₀ b₀ : List ℕ} {all : List Write} (ws : List Write) (wr : Write
   used-in : f .used ≤ usedWord w₀
   used-in = omega (arith, m .used-is, used-two w₀ b₀ (take (f .rows) old) (drop (f .rows) old) (two w₀ b₀ (m .valid) (f .rows) (m .rows-in)))
 
-  start-in-front : (i : ℕ) → i < f .rows → startWord w i ≤ f .used
-  start-in-front i l =
-      let s = start-row w₀ b₀ (m .valid) (f .rows) i (m .rows-in) (omega arith) w b (m .words-front) same-front l in
-      omega (arith, s, m .used-is, used-mid w₀ b₀ (m .valid) (f .rows) i (m .rows-in) (omega arith))
-
   pub pass-mergeable : {by size : ℕ} → by ≡ suc (length ws) → size ≡ sizeOf (wr .0) (wr .1) → Mergeable w b by size f
   pass-mergeable by-is size-is =
       let n = left-long in
@@ -229,7 +224,9 @@ module _ {w₀ b₀ : List ℕ} {all : List Write} (ws : List Write) (wr : Write
       let g = size-more ws wr in
       record {
         front-in = front-in w₀ b₀ (m .valid) (f .rows) (m .rows-in) w b (m .words-front) same-front (m .same-words) (m .same-bytes);
-        starts-in = start-in-front;
+        starts-in = λ i l.
+            let s = start-row w₀ b₀ (m .valid) (f .rows) i (m .rows-in) (omega arith) w b (m .words-front) same-front l in
+            omega (arith, s, m .used-is, used-mid w₀ b₀ (m .valid) (f .rows) i (m .rows-in) (omega arith));
         some-left = omega arith;
         rows-free = omega (arith, m .words-room, m .rows-in, m .fewer, m .same-words, n);
         bytes-free = omega (arith, m .bytes-room, m .gap-is, m .smaller, m .same-bytes, u);

@@ -8,7 +8,7 @@ use Rattle.server.proofs.PlaceLaws.{arguments-of, name-of}
 use Rattle.key.specs.Bytes.{Bytes}
 use Rattle.resp.specs.Reply.{Reply, Integer, BulkString, Nil, bulkOr}
 use Rattle.server.specs.declared.Answer.{Answer}
-use Rattle.server.specs.declared.errors.Fixed.{Fixed}
+use Rattle.server.specs.declared.Fixed.{Fixed}
 use Rattle.server.specs.Names.{Args, arguments}
 use Rattle.server.specs.Command.{argument, live, unknownCommand}
 use Rattle.server.specs.Errors.{fixedReply, arityOf}

@@ -1,10 +1,10 @@
 -- Laws of the writes of a command's arguments, set one after another. Assumes nothing.
-use Prim.Native.Nat.{ℕ, zero, suc, _+_, _-_, _*_, _/_, _^_, _≤_, _<_}
-use native.Mathlib.Numerals.{add-one, add-two}
+use Prim.Native.Nat.{ℕ, suc, _+_, _-_, _*_, _/_, _^_, _≤_, _<_}
+use native.Mathlib.Numerals.{add-one}
 use native.Mathlib.Omega.{arith}
 use mathlib.Core.Path.{_≡_, refl, sym, ap, _∙_, subst}
 use mathlib.Core.Bool.{true}
-use mathlib.Core.List.{List, [], _∷_, map}
+use mathlib.Core.List.{List, [], _∷_}
 use mathlib.Core.Option.{Option, none, some}
 use lib.ListN.{length, getD}
 use borrow.Author.Tests.{le-leb}
@@ -14,14 +14,10 @@ use Rattle.memtable.specs.Table.{Value, Write, lastWrites}
 use Rattle.memtable.specs.Layout.{valueOfWord}
 use Rattle.batch.specs.Members.{valueInside}
 use Rattle.batch.specs.Settling.{KeyIn}
-use Rattle.server.specs.Command.{tombstone, put, pairsOf}
-use Rattle.server.specs.Places.{argumentsAt, PartsIn}
+use Rattle.server.specs.Places.{argumentAt, tombstonesAt, pairsAt, PartsIn}
+use Rattle.server.proofs.PlaceLaws.{part-in, tombstones-next, tombstones-end, pairs-next, pairs-end}
 use Rattle.own.specs.Own.{ownWrites, Own}
-use Rattle.own.specs.Changes.{RowFits, OwnPut, OwnPuts, argumentAt, tombstonesAt, pairsAt}
-
--- one argument of many
-pub part-in : (p : List ℕ) (d : Bytes) (m k : ℕ) → PartsIn p d m → k < m → KeyIn p d (2 * k)
-part-in p d m k ps h = record { words-in = omega (arith, ps .table); key-in = ps .inside k h }
+use Rattle.own.specs.Changes.{RowFits, OwnPut, OwnPuts}
 
 -- ONE WRITE: its row, from the words a and x of the value's argument, and s and l of the key's
 pub pair-word : (p : List ℕ) (d : Bytes) (v : ℕ) {x : ℕ} → x ≡ getD p (2 * v + 1) 0 → KeyIn p d (2 * v) → length d * 1 < 2 ^ 63 → x + 1 < 2 ^ 64
@@ -92,41 +88,34 @@ module _ {w w′ : List ℕ} {d : Bytes} {n r : ℕ} {whole rest : List Write} {
 pub record Tombstones (w w′ : List ℕ) (d : Bytes) (n : ℕ) (p : List ℕ) (from to r i : ℕ) : Type 0 where
   pub low : from ≤ i
   pub high : i ≤ to
-  pub taking : Taking w w′ d n r (tombstonesAt from to p d) (tombstonesAt i to p d) (to - from) (to - i)
+  pub taking : Taking w w′ d n r (tombstonesAt from (to - from) p d) (tombstonesAt i (to - i) p d) (to - from) (to - i)
 
 pub tombstones-none : (w : List ℕ) (d : Bytes) (n : ℕ) (p : List ℕ) (from to : ℕ) → Own w d n → from ≤ to → Tombstones w w d n p from to n from
-tombstones-none w d n p from to o h = record { low = omega arith; high = h; taking = taking-none w d n (tombstonesAt from to p d) (to - from) o }
+tombstones-none w d n p from to o h = record { low = omega arith; high = h; taking = taking-none w d n (tombstonesAt from (to - from) p d) (to - from) o }
 
 module _ {w w′ : List ℕ} {d : Bytes} {n : ℕ} {p : List ℕ} {from to r i : ℕ} (t : Tombstones w w′ d n p from to r i) where
   module _ (h : i < to) where
     pub tombstone-room : 4 * (n + (to - from)) ≤ length w → 4 * r + 4 ≤ length w′
     tombstone-room room = omega (arith, t .low, t .taking .most, t .taking .same)
 
-    tombstones-next : tombstonesAt i to p d ≡ (argumentAt i p d, none) ∷ tombstonesAt (i + 1) to p d
-    unfolding argumentsAt
-    tombstones-next =
-        let e : to - i ≡ suc (to - (i + 1)) = omega arith in
-        ap (λ (m : ℕ). map tombstone (argumentsAt i m p d)) e ∙ ap (λ (j : ℕ). (argumentAt i p d, none) ∷ map tombstone (argumentsAt j (to - (i + 1)) p d)) (sym (add-one i))
-
     pub tombstones-more : {w″ : List ℕ} {r′ : ℕ} → OwnPut w′ w″ d r (argumentAt i p d) none r′ → Tombstones w w″ d n p from to r′ (i + 1)
     tombstones-more o = record {
       low = omega (arith, t .low);
       high = omega arith;
-      taking = taking-more (t .taking) (tombstonesAt (i + 1) to p d) o tombstones-next (omega arith);
+      taking = taking-more (t .taking) (tombstonesAt (i + 1) (to - (i + 1)) p d) o (tombstones-next p d h) (omega arith);
     }
 
-  pub tombstones-all : to ≤ i → OwnPuts w w′ d n (tombstonesAt from to p d) (to - from) r
-  unfolding argumentsAt
-  tombstones-all h = let e : to - i ≡ 0 = omega arith in taking-all (t .taking) (ap (λ (m : ℕ). map tombstone (argumentsAt i m p d)) e)
+  pub tombstones-all : to ≤ i → OwnPuts w w′ d n (tombstonesAt from (to - from) p d) (to - from) r
+  tombstones-all h = taking-all (t .taking) (tombstones-end p d h)
 
 -- PAIRS of the arguments before i have been set
 pub record Pairs (w w′ : List ℕ) (d : Bytes) (n : ℕ) (p : List ℕ) (from to r i : ℕ) : Type 0 where
   pub low : from ≤ i
   pub high : i ≤ to
-  pub taking : Taking w w′ d n r (pairsAt from to p d) (pairsAt i to p d) ((to - from) / 2) ((to - i) / 2)
+  pub taking : Taking w w′ d n r (pairsAt from (to - from) p d) (pairsAt i (to - i) p d) ((to - from) / 2) ((to - i) / 2)
 
 pub pairs-none : (w : List ℕ) (d : Bytes) (n : ℕ) (p : List ℕ) (from to : ℕ) → Own w d n → from ≤ to → Pairs w w d n p from to n from
-pairs-none w d n p from to o h = record { low = omega arith; high = h; taking = taking-none w d n (pairsAt from to p d) ((to - from) / 2) o }
+pairs-none w d n p from to o h = record { low = omega arith; high = h; taking = taking-none w d n (pairsAt from (to - from) p d) ((to - from) / 2) o }
 
 module _ {w w′ : List ℕ} {d : Bytes} {n : ℕ} {p : List ℕ} {from to r i : ℕ} (t : Pairs w w′ d n p from to r i) where
   module _ (h : 1 < to - i) where
@@ -139,26 +128,12 @@ module _ {w w′ : List ℕ} {d : Bytes} {n : ℕ} {p : List ℕ} {from to r i :
     pub pair-room : 4 * (n + (to - from) / 2) ≤ length w → 4 * r + 4 ≤ length w′
     pair-room room = omega (arith, t .low, t .taking .most, t .taking .same)
 
-    pairs-next : pairsAt i to p d ≡ (argumentAt i p d, some (argumentAt (i + 1) p d)) ∷ pairsAt (i + 2) to p d
-    unfolding argumentsAt pairsOf
-    pairs-next =
-        let e : to - i ≡ suc (suc (to - (i + 2))) = omega arith in
-        ap (λ (m : ℕ). map put (pairsOf (argumentsAt i m p d))) e
-        ∙ ap (λ (j : ℕ). (argumentAt i p d, some (argumentAt j p d)) ∷ map put (pairsOf (argumentsAt (suc (suc i)) (to - (i + 2)) p d))) (sym (add-one i))
-        ∙ ap (λ (j : ℕ). (argumentAt i p d, some (argumentAt (i + 1) p d)) ∷ map put (pairsOf (argumentsAt j (to - (i + 2)) p d))) (sym (add-two i))
-
     pub pairs-more : {w″ : List ℕ} {r′ : ℕ} → OwnPut w′ w″ d r (argumentAt i p d) (some (argumentAt (i + 1) p d)) r′ → Pairs w w″ d n p from to r′ (i + 2)
     pairs-more o = record {
       low = omega (arith, t .low);
       high = omega arith;
-      taking = taking-more (t .taking) (pairsAt (i + 2) to p d) o pairs-next (omega arith);
+      taking = taking-more (t .taking) (pairsAt (i + 2) (to - (i + 2)) p d) o (pairs-next p d i (to - i) (to - (i + 2)) (omega arith)) (omega arith);
     }
 
-  pub pairs-all : to - i ≤ 1 → OwnPuts w w′ d n (pairsAt from to p d) ((to - from) / 2) r
-  unfolding argumentsAt pairsOf
-  pairs-all h = taking-all (t .taking) (go (to - i) h)
-    where
-      go : (m : ℕ) → m ≤ 1 → map put (pairsOf (argumentsAt i m p d)) ≡ []
-      go zero h = refl
-      go (suc zero) h = refl
-      go (suc (suc m)) h = absurd (omega arith)
+  pub pairs-all : to - i ≤ 1 → OwnPuts w w′ d n (pairsAt from (to - from) p d) ((to - from) / 2) r
+  pairs-all h = taking-all (t .taking) (pairs-end p d i (to - i) h)

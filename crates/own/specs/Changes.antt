@@ -1,17 +1,15 @@
 -- What the functions over the own writes answer and leave: the place of a key, a write set, and the writes of a command's arguments set.
-use Prim.Native.Nat.{ℕ, suc, _+_, _-_, _*_, _≤_}
+use Prim.Native.Nat.{ℕ, suc, _+_, _≤_}
 use mathlib.Core.Path.{_≡_}
 use mathlib.Core.Bool.{Bool, true, cond}
-use mathlib.Core.List.{List, [], _∷_, map}
+use mathlib.Core.List.{List, [], _∷_}
 use mathlib.Core.Option.{Option, some}
 use lib.Dec.{ltb}
-use lib.ListN.{length, getD}
-use Rattle.key.specs.Bytes.{Bytes, _and_, part}
+use lib.ListN.{length}
+use Rattle.key.specs.Bytes.{Bytes, _and_}
 use Rattle.key.specs.Keys.{Key, keyBelow, sameKey}
 use Rattle.memtable.specs.Table.{Value, Write, update, lastWrites}
 use Rattle.batch.specs.Members.{valueInside, writeAt}
-use Rattle.server.specs.Command.{tombstone, put, pairsOf}
-use Rattle.server.specs.Places.{argumentsAt}
 use Rattle.own.specs.Own.{ownWrites, Own}
 
 -- how many writes at the front have a key below `k`
@@ -43,15 +41,3 @@ pub record OwnPuts (own own′ : List ℕ) (d : Bytes) (n : ℕ) (ws : List Writ
   pub more : n ≤ r
   pub most : r ≤ n + count
   pub same : length own′ ≡ length own
-
--- argument k
-abbrev pub argumentAt : ℕ → List ℕ → Bytes → Bytes
-argumentAt k places d = part (getD places (2 * k) 0) (getD places (2 * k + 1) 0) d
-
--- a tombstone for each of the arguments
-abbrev pub tombstonesAt : ℕ → ℕ → List ℕ → Bytes → List Write
-tombstonesAt from to places d = map tombstone (argumentsAt from (to - from) places d)
-
--- a write for each pair of a key and a value
-abbrev pub pairsAt : ℕ → ℕ → List ℕ → Bytes → List Write
-pairsAt from to places d = map put (pairsOf (argumentsAt from (to - from) places d))

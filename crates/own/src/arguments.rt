@@ -5,9 +5,9 @@ ghost use mathlib.Core.Option.{none, some};
 ghost use Prim.Native.Nat.{_+_, _-_, _*_, _/_, _≤_};
 ghost use lib.ListN.{length};
 ghost use Rattle.batch.specs.Settling.{KeyIn};
-ghost use Rattle.server.specs.Places.{PartsIn};
+ghost use Rattle.server.specs.Places.{argumentAt, tombstonesAt, pairsAt, PartsIn};
 ghost use Rattle.own.specs.Own.{Own};
-ghost use Rattle.own.specs.Changes.{OwnPut, OwnPuts, argumentAt, tombstonesAt, pairsAt};
+ghost use Rattle.own.specs.Changes.{OwnPut, OwnPuts};
 
 // A tombstone for the key that is argument k.
 pub fn put_tombstone(own: &mut [u64], n: usize, data: &[u8], places: &[u64], k: usize) -> usize
@@ -49,7 +49,7 @@ pub fn put_tombstones(
     requires { ⌜ PartsIn (now places) (now «data») to ⌝ }
     requires { ⌜ from ≤ to ⌝ }
     requires { ⌜ 4 * (n + (to - from)) ≤ length (now own) ⌝ }
-    ensures { λ r. ⌜ OwnPuts (now (own .entry)) (now (own .exit)) (now («data» .entry)) n (tombstonesAt from to (now (places .entry)) (now («data» .entry))) (to - from) r ⌝ }
+    ensures { λ r. ⌜ OwnPuts (now (own .entry)) (now (own .exit)) (now («data» .entry)) n (tombstonesAt from (to - from) (now (places .entry)) (now («data» .entry))) (to - from) r ⌝ }
 {
     let mut r = n;
     let mut i = from;
@@ -73,7 +73,7 @@ pub fn put_pairs(
     requires { ⌜ PartsIn (now places) (now «data») to ⌝ }
     requires { ⌜ from ≤ to ⌝ }
     requires { ⌜ 4 * (n + (to - from) / 2) ≤ length (now own) ⌝ }
-    ensures { λ r. ⌜ OwnPuts (now (own .entry)) (now (own .exit)) (now («data» .entry)) n (pairsAt from to (now (places .entry)) (now («data» .entry))) ((to - from) / 2) r ⌝ }
+    ensures { λ r. ⌜ OwnPuts (now (own .entry)) (now (own .exit)) (now («data» .entry)) n (pairsAt from (to - from) (now (places .entry)) (now («data» .entry))) ((to - from) / 2) r ⌝ }
 {
     let mut r = n;
     let mut i = from;

@@ -1,6 +1,5 @@
 -- Laws of walks over the arguments of a command: how many of them are live keys. Assumes nothing.
 use Prim.Native.Nat.{ℕ, suc, _+_, _-_, _*_, _≤_, _<_}
-use native.Mathlib.Numerals.{add-one}
 use native.Mathlib.Omega.{arith}
 use mathlib.Core.Path.{_≡_, refl, sym, ap, _∙_}
 use mathlib.Core.Bool.{Bool, true, false}
@@ -14,21 +13,8 @@ use Rattle.memtable.specs.Walk.{isLive}
 use Rattle.batch.specs.Settling.{keyPart}
 use Rattle.server.specs.Command.{liveOne, live}
 use Rattle.server.specs.Places.{argumentsAt}
-use Rattle.server.proofs.PlaceLaws.{arguments-count}
+use Rattle.server.proofs.PlaceLaws.{arguments-count, arguments-next, arguments-end}
 use Rattle.reading.specs.See.{CountsOne}
-
-module _ (places : List ℕ) (input : Bytes) where
-  -- argument i, and those behind it
-  pub arguments-next : {to i : ℕ} → i < to → argumentsAt i (to - i) places input ≡ keyPart places input (2 * i) ∷ argumentsAt (i + 1) (to - (i + 1)) places input
-  unfolding argumentsAt
-  arguments-next {to} {i} h =
-      let e : to - i ≡ suc (to - (i + 1)) = omega arith in
-      ap (λ (m : ℕ). argumentsAt i m places input) e
-      ∙ ap (λ (m : ℕ). keyPart places input (2 * i) ∷ argumentsAt m (to - (i + 1)) places input) (sym (add-one i))
-
-  pub arguments-end : {to i : ℕ} → to ≤ i → argumentsAt i (to - i) places input ≡ []
-  unfolding argumentsAt
-  arguments-end {to} {i} h = let e : to - i ≡ 0 = omega arith in ap (λ (m : ℕ). argumentsAt i m places input) e
 
 -- no more keys are live than there are
 pub live-few : (r : Reader) (ks : List Key) → live r ks ≤ length ks

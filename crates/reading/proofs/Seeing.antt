@@ -85,10 +85,10 @@ module _ (w b k : List ℕ) (s : ℕ) {f : Found} (is : f ≡ liveFound w (findF
 
 -- the value of a live row, by the part that holds it
 module _ (own : List ℕ) (d : Bytes) (j : ℕ) (l : LiveRow own d j) where
-  pub row-value : {a x : ℕ} (v : Bytes) → a ≡ getD own (4 * j + 2) 0 → x ≡ getD own (4 * j + 3) 0 → valueOfWord x v ≡ valueOfWord x (part a (x - 1) d) → some v ≡ writeAt own d j .1
+  pub row-value : {a x : ℕ} (v : Bytes) → a ≡ getD own (4 * j + 2) 0 → x ≡ getD own (4 * j + 3) 0 → v ≡ part a (x - 1) d → some v ≡ writeAt own d j .1
   unfolding writeAt
   row-value {a} {x} v a-is x-is e =
-      go x (λ (z : x ≡ 0). l .lives (sym x-is ∙ z)) ∙ e ∙ (λ z. valueOfWord (x-is z) (part (a-is z) (x-is z - 1) d))
+      go x (λ (z : x ≡ 0). l .lives (sym x-is ∙ z)) ∙ ap (valueOfWord x) e ∙ (λ z. valueOfWord (x-is z) (part (a-is z) (x-is z - 1) d))
     where
       go : (y : ℕ) → (y ≡ 0 → ⊥) → some v ≡ valueOfWord y v
       go zero h = absurd (h refl)

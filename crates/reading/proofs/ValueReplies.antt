@@ -9,7 +9,7 @@ use Rattle.key.specs.Bytes.{Bytes}
 use Rattle.key.specs.Keys.{Key}
 use Rattle.writing.specs.declared.Put.{Put}
 use Rattle.writing.specs.Puts.{Puts, Adds}
-use Rattle.writing.proofs.Puts.{length-kept, same-added, then-follows}
+use Rattle.writing.proofs.Puts.{same-added}
 use Rattle.resp.specs.Reply.{BulkString, Nil, head, encode, array, bulkOr}
 use Rattle.encode.proofs.Replies.{Listed, listed-none, listed-more, listed-all}
 use Rattle.memtable.specs.Table.{Reader}
@@ -17,13 +17,12 @@ use Rattle.memtable.specs.Layout.{valuePart}
 use Rattle.batch.specs.Members.{writeAt}
 use Rattle.batch.specs.Settling.{keyPart}
 use Rattle.server.specs.Places.{argumentsAt}
-use Rattle.server.proofs.PlaceLaws.{arguments-count}
+use Rattle.server.proofs.PlaceLaws.{arguments-count, arguments-next, arguments-end}
 use Rattle.own.specs.Own.{readerOf}
 use Rattle.reading.specs.declared.Seen.{Seen}
 use Rattle.reading.specs.declared.Seen.the-variants.{Written, Stored, Absent}
 use Rattle.reading.specs.See.{Sees, valueReplies}
 use Rattle.reading.proofs.Seeing.{seen-written, seen-stored, seen-absent}
-use Rattle.reading.proofs.Arguments.{arguments-next, arguments-end}
 
 -- A VALUE, or nil
 module _ (own : List ℕ) (d : Bytes) (n : ℕ) (w : List ℕ) (b : Bytes) (s : ℕ) (k : Key) {x : Seen} (p : Sees own d n w b s k x) {entry exit : Bytes} {put after : Put} where
@@ -63,6 +62,3 @@ module _ {r : Reader} {places : List ℕ} {input : Bytes} {from to i : ℕ} {put
       let count : to - from ≡ length (valueReplies r (argumentsAt from (to - from) places input)) =
       sym (replies-long r (argumentsAt from (to - from) places input) ∙ arguments-count from (to - from) places input) in
       listed-all (valueReplies r (argumentsAt from (to - from) places input)) count p (rw (← none-left) (g .listed))
-
-  pub values-length : {text start : Bytes} → Puts text start put entry → length mid ≡ length start
-  values-length p = length-kept (then-follows p (g .listed .follows))

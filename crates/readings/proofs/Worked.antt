@@ -7,7 +7,7 @@ use Rattle.key.specs.Bytes.{bytes, sameBytes}
 use Rattle.calls.specs.Calls.{Lent, Call, request, grouped}
 use Rattle.calls.specs.Posting.{Item, alone, listed, exec, member}
 use Rattle.calls.specs.Demand3.{itemsOf}
-use Rattle.calls.specs.Opens.{registry-opens}
+use Rattle.calls.specs.Opens.{calls-opens}
 use Rattle.readings.specs.Readings.{opened, line, after, answerTo, first, gives, replies, every}
 
 abbrev kindOf : Item → ℕ
@@ -37,7 +37,7 @@ worked =
 
 -- the items posted: the SET of session 1, the EXEC of session 0, the member; and nothing of the other calls
 worked-history : T (sameBytes (map kindOf (itemsOf worked opened)) (1 ∷ 3 ∷ 4 ∷ []))
-unfolding registry-opens worked
+unfolding calls-opens worked
 worked-history = tt
 
 -- `k` live
@@ -63,5 +63,5 @@ answers =
     ∷ []
 
 worked-answers : T (every answers)
-unfolding registry-opens answers every after kSet queued
+unfolding calls-opens answers every after kSet queued
 worked-answers = tt

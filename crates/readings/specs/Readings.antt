@@ -1,4 +1,4 @@
--- The readings of document 01 that are marked P, on the published calls, as one list with one fact that antt computes.
+-- The readings of document 01 that are marked P, on the published calls or on their definitions, as one list with one fact that antt computes.
 use Prim.Native.Nat.{ℕ, _+_}
 use Prim.Native.String.{String}
 use mathlib.Core.Bool.{Bool, true, false, _&&_}
@@ -16,7 +16,7 @@ use Rattle.batch.specs.Group.{verdictByte, taken, group}
 use Rattle.server.specs.Glob.{glob}
 use Rattle.calls.specs.Serve.{Outcome}
 use Rattle.calls.specs.Calls.{Lent, open-call, request-call}
-use Rattle.calls.specs.Opens.{registry-opens}
+use Rattle.calls.specs.Opens.{calls-opens}
 
 -- an empty store just opened, and sixteen clear sessions
 abbrev pub opened : Lent
@@ -128,5 +128,5 @@ readings =
     ∷ []
 
 pub readings-hold : T (every readings)
-unfolding registry-opens readings every after counterFull kLive fMoved
+unfolding calls-opens readings every after counterFull kLive fMoved
 readings-hold = tt

@@ -13,7 +13,7 @@ use Rattle.key.specs.Bytes.{Bytes, bytes}
 use Rattle.number.specs.Decimal.{digitsStep, digitsWithin, digits}
 use Rattle.writing.specs.declared.Put.{Put}
 use Rattle.writing.specs.Puts.{Puts, Adds}
-use Rattle.writing.proofs.Puts.{then-puts, then-adds, same-text, same-added}
+use Rattle.writing.proofs.Puts.{then-puts, then-adds, same-added}
 use Rattle.resp.specs.declared.Span.{Span}
 use Rattle.resp.specs.declared.Header.{Header}
 use Rattle.resp.specs.declared.Header.the-variants.{Multibulk, Bulk}
@@ -22,9 +22,6 @@ use Rattle.resp.specs.declared.Fault.the-variants.{LineTooLong, NotText, NotNum
 use Rattle.resp.specs.Utf8.{lossy}
 use Rattle.resp.specs.Request.{spanned, limitOf, headerName, faultText}
 use Rattle.resp.specs.Reply.{clean, crlf, err, encode}
-use Rattle.resp.specs.declared.clean.Letters.{Letters}
-use Rattle.resp.specs.Letters.{letterAs, shownAs, quotingError}
-use Rattle.clean.proofs.Letters.{shown-letters}
 
 -- A PART OF THE REQUEST
 module _ (input : Bytes) (p : Span) where
@@ -120,15 +117,3 @@ write-told s e a = rw e a
 -- the name of a header by its kind
 pub write-name : {entry exit : Bytes} {put after : Put} {k l : Header} → k ≡ l → Adds (headerName l) put entry after exit → Adds (headerName k) put entry after exit
 write-name e a = rw e a
-
--- an error that quotes a word
-quoting-text : (letters : Letters) (before word after : Bytes) → encode (quotingError before letters word after) ≡ (45 ∷ []) ++ map clean before ++ map (shownAs letters) (lossy word) ++ map clean after ++ crlf
-unfolding encode
-quoting-text letters before word after =
-    ap (λ (l : Bytes). 45 ∷ (l ++ crlf))
-    (map-append clean (before ++ map (letterAs letters) (lossy word)) after
-    ∙ ap (λ (l : Bytes). l ++ map clean after) (map-append clean before (map (letterAs letters) (lossy word)) ∙ ap (λ (l : Bytes). map clean before ++ l) (shown-letters letters (lossy word))))
-
-pub write-quoting : {l0 l1 l2 l3 l4 l5 : Bytes} {u1 u2 u3 u4 u5 : Put} (letters : Letters) (before word after : Bytes) → Puts (45 ∷ []) l0 u1 l1 → Adds (map clean before) u1 l1 u2 l2
-    → Adds (map (shownAs letters) (lossy word)) u2 l2 u3 l3 → Adds (map clean after) u3 l3 u4 l4 → Adds crlf u4 l4 u5 l5 → Puts (encode (quotingError before letters word after)) l0 u5 l5
-write-quoting letters before word after a b c d e = same-text (quoting-text letters before word after) (then-puts (then-puts (then-puts (then-puts a b) c) d) e)

@@ -4,8 +4,8 @@ use encode::reply;
 use parse::argument;
 use resp::Fault;
 use resp::Header;
+use resp::Letters;
 use resp::Span;
-use resp::clean::Letters;
 use writing::Put;
 ghost use mathlib.Core.Path.{_≡_};
 ghost use mathlib.Core.List.{map, _++_};
@@ -14,7 +14,6 @@ ghost use Rattle.writing.specs.Puts.{Puts, Adds};
 ghost use Rattle.resp.specs.declared.Fault.the-variants.{NotText, NotNumber, OverLimit, NoDollar};
 ghost use Rattle.resp.specs.Request.{spanned, headerName, faultText};
 ghost use Rattle.resp.specs.Reply.{clean, err, encode};
-ghost use Rattle.resp.specs.Letters.{quotingError};
 
 // The bytes of a part of the request; a part beyond the end has none.
 pub fn part_of(input: &[u8], part: Span) -> &[u8]
@@ -103,21 +102,4 @@ pub fn put_fault(out: &mut [u8], input: &[u8], fault: Fault) -> Put
     let named = writing::put_bytes(out, b"-ERR Protocol error: ");
     let told = then_fault(out, named, input, fault);
     reply::then_crlf(out, told)
-}
-
-// Writes an error that quotes a word between two texts.
-pub fn put_quoting(
-    out: &mut [u8],
-    before: &[u8],
-    word: &[u8],
-    after: &[u8],
-    letters: Letters,
-) -> Put
-    ensures { λ r. ⌜ Puts (encode (quotingError (now (before .entry)) letters (now (word .entry)) (now (after .entry)))) (now (out .entry)) r (now (out .exit)) ⌝ }
-{
-    let mark = writing::put_byte(out, b'-');
-    let front = clean::then_clean(out, mark, before, Letters::AsSent);
-    let quoted = clean::then_clean_lossy(out, front, word, letters);
-    let back = clean::then_clean(out, quoted, after, Letters::AsSent);
-    reply::then_crlf(out, back)
 }

@@ -1,304 +1,20 @@
--- The request call meets its promise: its number, the arguments read, what one session leaves, and that session among the sixteen. Assumes nothing.
-use Prim.Native.Nat.{ℕ, zero, suc, _+_, _-_, _*_, _/_, _≤_, _<_}
-use native.Mathlib.Nat.{suc-mul}
+-- The request call meets its promise: its number, what is served without one, and what stays with one. Assumes nothing.
+use Prim.Native.Nat.{ℕ, _-_}
 use native.Mathlib.Omega.{arith}
-use mathlib.Core.Logic.{_⊎_, ⊎-elim}
-use mathlib.Core.Path.{_≡_, refl, sym, ap, _∙_, subst}
+use mathlib.Core.Path.{_≡_, refl, sym, ap, _∙_}
 use mathlib.Core.Bool.{Bool, true, false, cond}
-use mathlib.Core.List.{List, [], _∷_, _++_, map}
-use lib.Dec.{ltb, eqb}
-use lib.ListN.{length, take, drop, getD, replicate, length-take, take-append-drop, length-replicate}
-use lib.Seq.{getD-take, drop-drop}
+use mathlib.Core.List.{List}
+use lib.Dec.{ltb}
+use lib.ListN.{length, replicate, length-replicate}
 use borrow.Author.Tests.{ltb-true}
-use Rattle.key.specs.Bytes.{Bytes, bytes, part}
-use Rattle.key.proofs.Bytes.{and-left, and-right, and-both}
-use Rattle.writing.specs.declared.Put.{Put}
-use Rattle.writing.specs.Puts.{Puts}
-use Rattle.resp.specs.declared.Span.{Span}
-use Rattle.resp.specs.declared.Fault.{Fault}
-use Rattle.resp.specs.declared.Read.{Read}
-use Rattle.resp.specs.declared.Read.the-variants.{Wait, Faulty, TooMany, Whole}
-use Rattle.resp.specs.Request.{Reading, waits, faulty, tooMany, whole, readRequest, readAnswer, spanned, faultText}
-use Rattle.resp.specs.Reply.{err, encode}
-use Rattle.resp.specs.Steps.{spanWords, argumentWords, ReadIs}
-use Rattle.resp.proofs.Places.{words-length}
-use Rattle.resp.proofs.Bounds.{SpansIn, ReadingIn, request-in}
-use Rattle.memtable.specs.Versions.{Store}
-use Rattle.memtable.specs.Layout.{lastWord, storeIn, validStore, leaveWords, leaveBytes}
-use Rattle.memtable.proofs.Validity.{validated}
-use Rattle.memtable.proofs.Sequence.{leave-words-same, leave-bytes-same}
+use Rattle.key.specs.Bytes.{Bytes}
 use Rattle.server.specs.declared.Answer.{Answer}
-use Rattle.server.specs.Session.{Session}
-use Rattle.server.specs.Sessions.{sessionFrom, sessionOk, sessionAt, wordsOfSession, bytesOfSession, validSessions, leaveSessionWords, leaveSessionBytes}
-use Rattle.server.specs.Held.{Held}
-use Rattle.server.specs.Places.{argumentsAt, PartsIn}
-use Rattle.server.specs.Finish.{Served, silent, replyBuffer}
-use Rattle.sessions.proofs.Kept.{words-kept, bytes-kept, held-by-tests, session-held}
-use Rattle.server.proofs.LayoutLaws.{Sixteen, sixteen, own-words, own-bytes}
+use Rattle.server.specs.Finish.{replyBuffer}
 use Rattle.answer.specs.Answers.{refusal}
-use Rattle.exec.specs.Leaving.{Closes}
-use Rattle.session.specs.Responds.{responded, Left, Ready}
-use Rattle.session.proofs.Among.{lentAt, backAt, lent-words, lent-bytes, lent-session, words-back, bytes-back}
-use Rattle.calls.specs.Serve.{protocolError, serveReading, serve}
-use Rattle.calls.specs.Calls.{Lent, lentOf, valid, leaveStore, leaveSession, leaveServed, Called, refuses, answerOf, request-call, RequestPromise, TablePromise}
+use Rattle.calls.specs.Calls.{Lent, lentOf, valid, Called, refuses, answerOf, request-call, RequestPromise, TablePromise}
 use Rattle.numbers.specs.Numbers.{requestNumber}
-use Rattle.registry.specs.Serving.{FaultLeft, wholeServed, servedIn, TableHolds, ReadyAmong, servedAmong, LeftAmong}
-use Rattle.calls.proofs.ServeLaws.{ServeKept, serve-kept}
-use Rattle.calls.proofs.LentLaws.{valid-parts, session-good, eqb-differs}
-use Rattle.calls.proofs.CallLaws.{no-session, not-valid, served}
-
--- A PROTOCOL ERROR
-pub fault-answered : (input : Bytes) (f : Fault) (s : List ℕ) (out : Bytes) {put : Put} {mid : Bytes} {s′ : List ℕ} {r : Answer}
-    → Puts (encode (err (bytes "Protocol error: " ++ faultText input f))) out put mid → Closes put (length input) s s′ r → FaultLeft input f s out r s′ mid
-unfolding protocolError
-fault-answered input f s out {put} {mid} p c = record { leaves = λ w b sb v z h. c .leaves (protocolError input f) w b out mid sb v z p h }
-
--- SILENT: nothing changes, and the reply buffer stays cleared
-pub ready-held : {w : List ℕ} {b : Bytes} {s : List ℕ} {sb out : Bytes} → Ready w b s sb out → Held s sb
-ready-held {w} {b} {s} {sb} h = held-by-tests (lastWord w) s sb (h .one) (h .ok)
-
-silent-left : {w : List ℕ} {b : Bytes} {s : List ℕ} {sb out : Bytes} (n used : ℕ) → Ready w b s sb out
-    → Left (silent n used (storeIn w b) (sessionFrom s sb)) out w b s sb (record { number = n; used = used; reply = 0 }) out w b s sb
-unfolding replyBuffer
-silent-left {w} {b} {s} {sb} {out} n used h =
-    let z : length out ≡ length out - 0 = omega arith in
-    record {
-      says = record { answer = refl; reply = h .cleared ∙ ap (λ (m : ℕ). replicate m 0) z };
-      store = record { words = sym (leave-words-same w b (h .valid)); bytes = sym (leave-bytes-same w b (h .valid)) };
-      session = record { words = sym (words-kept (ready-held h)); bytes = sym (bytes-kept (ready-held h)) };
-    }
-
-left-as : {d e : Served} {out : Bytes} {w : List ℕ} {b : Bytes} {s : List ℕ} {sb : Bytes} {r : Answer} {out′ : Bytes} {w′ : List ℕ} {b′ : Bytes} {s′ : List ℕ} {sb′ : Bytes}
-    → d ≡ e → Left d out w b s sb r out′ w′ b′ s′ sb′ → Left e out w b s sb r out′ w′ b′ s′ sb′
-left-as {d} {e} {out} {w} {b} {s} {sb} {r} {out′} {w′} {b′} {s′} {sb′} p l = subst (λ (x : Served). Left x out w b s sb r out′ w′ b′ s′ sb′) p l
-
--- A REQUEST THAT WAS READ
-module _ (places : List ℕ) (input : Bytes) (w : List ℕ) (b : Bytes) (s : List ℕ) (sb out : Bytes) {count : ℕ} (used : ℕ) where
-  pub whole-empty : count ≡ 0 → Ready w b s sb out → Left (wholeServed (length out) count used places input w b s sb) out w b s sb (record { number = 0; used = used; reply = 0 }) out w b s sb
-  unfolding wholeServed
-  whole-empty e h = left-as (sym (ap (λ (n : ℕ). wholeServed (length out) n used places input w b s sb) e)) (silent-left 0 used h)
-
-  pub whole-some : {r : Answer} {out′ : Bytes} {w′ : List ℕ} {b′ : Bytes} {s′ : List ℕ} {sb′ : Bytes} → (count ≡ 0 → ⊥)
-      → Left (responded (length out) used (argumentsAt 0 count places input) w b s sb) out w b s sb r out′ w′ b′ s′ sb′
-      → Left (wholeServed (length out) count used places input w b s sb) out w b s sb r out′ w′ b′ s′ sb′
-  whole-some nz l = left-as (go count nz) l
-    where
-      go : (n : ℕ) → (n ≡ 0 → ⊥) → responded (length out) used (argumentsAt 0 n places input) w b s sb ≡ wholeServed (length out) n used places input w b s sb
-      go zero h = absurd (h refl)
-      go (suc n) h = unfold wholeServed in refl
-
--- THE ARGUMENTS: the table's front gives the parts
-two-more : (k j : ℕ) → 2 * suc k + j ≡ 2 * k + suc (suc j)
-two-more k j = omega arith
-
-arguments-spanned : (table : List ℕ) (input : Bytes) (k : ℕ) (ps : List Span) → ((j : ℕ) → j < 2 * length ps → getD table (2 * k + j) 0 ≡ getD (spanWords ps) j 0)
-    → argumentsAt k (length ps) table input ≡ map (spanned input) ps
-unfolding argumentsAt spanWords
-arguments-spanned table input k [] q = refl
-arguments-spanned table input k (p ∷ ps) q =
-    let z : 2 * k ≡ 2 * k + 0 = omega arith in
-    let start : getD table (2 * k) 0 ≡ p .start = ap (λ (m : ℕ). getD table m 0) z ∙ q 0 (omega arith) in
-    let len : getD table (2 * k + 1) 0 ≡ p .len = q 1 (omega arith) in
-    let rest : argumentsAt (suc k) (length ps) table input ≡ map (spanned input) ps =
-    arguments-spanned table input (suc k) ps (λ j h. ap (λ (m : ℕ). getD table m 0) (two-more k j) ∙ q (suc (suc j)) (omega arith)) in
-    λ i. part (start i) (len i) input ∷ rest i
-
-span-inside : (n : ℕ) (ps : List Span) → SpansIn n ps → (k : ℕ) → k < length ps → getD (spanWords ps) (2 * k) 0 + getD (spanWords ps) (2 * k + 1) 0 ≤ n
-unfolding spanWords
-span-inside n [] h k l = absurd (omega arith)
-span-inside n (p ∷ ps) h zero l = h .0
-span-inside n (p ∷ ps) h (suc k) l =
-    let a : 2 * suc k ≡ suc (suc (2 * k)) = omega arith in
-    let c : 2 * suc k + 1 ≡ suc (suc (2 * k + 1)) = omega arith in
-    let x : getD (p .start ∷ p .len ∷ spanWords ps) (2 * suc k) 0 ≡ getD (spanWords ps) (2 * k) 0 = ap (λ (m : ℕ). getD (p .start ∷ p .len ∷ spanWords ps) m 0) a in
-    let y : getD (p .start ∷ p .len ∷ spanWords ps) (2 * suc k + 1) 0 ≡ getD (spanWords ps) (2 * k + 1) 0 = ap (λ (m : ℕ). getD (p .start ∷ p .len ∷ spanWords ps) m 0) c in
-    let r = span-inside n ps (h .1) k (omega arith) in
-    omega (arith, x, y, r)
-
-module _ (table : List ℕ) (ps : List Span) (front : take (length (spanWords ps)) table ≡ spanWords ps) where
-  word-at : (j : ℕ) → j < 2 * length ps → getD table j 0 ≡ getD (spanWords ps) j 0
-  word-at j h = sym (getD-take (length (spanWords ps)) table j 0 (omega (arith, words-length ps))) ∙ ap (λ (l : List ℕ). getD l j 0) front
-
-  table-arguments : (input : Bytes) → argumentsAt 0 (length ps) table input ≡ map (spanned input) ps
-  table-arguments input = arguments-spanned table input 0 ps (λ j h. let z : 2 * 0 + j ≡ j = omega arith in ap (λ (m : ℕ). getD table m 0) z ∙ word-at j h)
-
-  table-parts : (input : Bytes) → SpansIn (length input) ps → PartsIn table input (length ps)
-  table-parts input h = record {
-    table = omega (arith, length-take (length (spanWords ps)) table, ap length front, words-length ps);
-    inside = λ k l. omega (arith, word-at (2 * k) (omega arith), word-at (2 * k + 1) (omega arith), span-inside (length input) ps h k l);
-  }
-
--- ONE SESSION, by what was read
-module _ (input : Bytes) (w : List ℕ) (b : Bytes) (s : List ℕ) (sb out : Bytes) (h : Ready w b s sb out) where
-  abbrev Leaving : Reading → Answer → Bytes → List ℕ → Bytes → List ℕ → Bytes → Type 0
-  Leaving x r out′ w′ b′ s′ sb′ = Left (serveReading (length out) input x (storeIn w b) (sessionFrom s sb)) out w b s sb r out′ w′ b′ s′ sb′
-
-  wait-by : (x : Reading) → Wait ≡ readAnswer x → Leaving x (refusal 0) out w b s sb
-  unfolding serveReading
-  wait-by waits e = silent-left 0 0 h
-  wait-by (faulty f) e = let z : _≡_ {A = ℕ} 0 1 = cc in absurd (omega arith)
-  wait-by tooMany e = let z : _≡_ {A = ℕ} 0 1 = cc in absurd (omega arith)
-  wait-by (whole ps used) e = let z : _≡_ {A = ℕ} 0 1 = cc in absurd (omega arith)
-
-  many-by : (x : Reading) → TooMany ≡ readAnswer x → Leaving x (refusal 2) out w b s sb
-  unfolding serveReading
-  many-by waits e = let z : _≡_ {A = ℕ} 0 1 = cc in absurd (omega arith)
-  many-by (faulty f) e = let z : _≡_ {A = ℕ} 0 1 = cc in absurd (omega arith)
-  many-by tooMany e = silent-left 2 0 h
-  many-by (whole ps used) e = let z : _≡_ {A = ℕ} 0 1 = cc in absurd (omega arith)
-
-  fault-by : (x : Reading) (f : Fault) {r : Answer} {out′ : Bytes} {s′ : List ℕ} → Faulty f ≡ readAnswer x → FaultLeft input f s out r s′ out′ → Leaving x r out′ w b s′ sb
-  unfolding serveReading
-  fault-by waits f e l = let z : _≡_ {A = ℕ} 0 1 = cc in absurd (omega arith)
-  fault-by (faulty g) f {r} {out′} {s′} e l =
-      let same : f ≡ g = cc in
-      let l′ : FaultLeft input g s out r s′ out′ = subst (λ (x : Fault). FaultLeft input x s out r s′ out′) same l in
-      let m = l′ .leaves w b sb (h .valid) (h .cleared) (ready-held h) in
-      record { says = m .says; store = m .store; session = record { words = m .session; bytes = m .session-bytes } }
-  fault-by tooMany f e l = let z : _≡_ {A = ℕ} 0 1 = cc in absurd (omega arith)
-  fault-by (whole ps used) f e l = let z : _≡_ {A = ℕ} 0 1 = cc in absurd (omega arith)
-
-  parts-by : (x : Reading) {count used : ℕ} (table : List ℕ) → Whole count used ≡ readAnswer x → ReadingIn (length input) x → take (length (argumentWords x)) table ≡ argumentWords x → PartsIn table input count
-  unfolding argumentWords
-  parts-by waits table e i f = let z : _≡_ {A = ℕ} 0 1 = cc in absurd (omega arith)
-  parts-by (faulty g) table e i f = let z : _≡_ {A = ℕ} 0 1 = cc in absurd (omega arith)
-  parts-by tooMany table e i f = let z : _≡_ {A = ℕ} 0 1 = cc in absurd (omega arith)
-  parts-by (whole ps u) {count} table e i f =
-      let same : count ≡ length ps = cc in
-      subst (λ (n : ℕ). PartsIn table input n) (sym same) (table-parts table ps f input (i .spans-in))
-
-  whole-is : (ps : List Span) (used : ℕ) (table : List ℕ) → take (length (spanWords ps)) table ≡ spanWords ps
-      → wholeServed (length out) (length ps) used table input w b s sb ≡ serveReading (length out) input (whole ps used) (storeIn w b) (sessionFrom s sb)
-  unfolding wholeServed serveReading responded
-  whole-is [] used table f = refl
-  whole-is (p ∷ ps) used table f = ap (λ (a : List Bytes). responded (length out) used a w b s sb) (table-arguments table (p ∷ ps) f input)
-
-  whole-by : (x : Reading) {count used : ℕ} (table : List ℕ) {r : Answer} {out′ : Bytes} {w′ : List ℕ} {b′ : Bytes} {s′ : List ℕ} {sb′ : Bytes} → Whole count used ≡ readAnswer x
-      → take (length (argumentWords x)) table ≡ argumentWords x → Left (wholeServed (length out) count used table input w b s sb) out w b s sb r out′ w′ b′ s′ sb′ → Leaving x r out′ w′ b′ s′ sb′
-  unfolding argumentWords
-  whole-by waits table e f l = let z : _≡_ {A = ℕ} 0 1 = cc in absurd (omega arith)
-  whole-by (faulty g) table e f l = let z : _≡_ {A = ℕ} 0 1 = cc in absurd (omega arith)
-  whole-by tooMany table e f l = let z : _≡_ {A = ℕ} 0 1 = cc in absurd (omega arith)
-  whole-by (whole ps u) {count} {used} table e f l =
-      let same-count : count ≡ length ps = cc in
-      let same-used : used ≡ u = cc in
-      left-as ((λ z. wholeServed (length out) (same-count z) (same-used z) table input w b s sb) ∙ whole-is ps u table f) l
-
-  module _ (places : ℕ) {r : Read} {table : List ℕ} (is : ReadIs (readRequest places input) r table) where
-    pub table-holds : TableHolds (readRequest places input) table
-    table-holds = record { front = is .front }
-
-    pub serve-wait : {a : Answer} → r ≡ Wait → a ≡ refusal 0 → Left (servedIn places (length out) input w b s sb) out w b s sb a out w b s sb
-    unfolding servedIn serve
-    serve-wait e f = rw f (wait-by (readRequest places input) (sym e ∙ is .answer))
-
-    pub serve-many : {a : Answer} → r ≡ TooMany → a ≡ refusal 2 → Left (servedIn places (length out) input w b s sb) out w b s sb a out w b s sb
-    unfolding servedIn serve
-    serve-many e f = rw f (many-by (readRequest places input) (sym e ∙ is .answer))
-
-    pub serve-fault : {f : Fault} {a : Answer} {out′ : Bytes} {s′ : List ℕ} → r ≡ Faulty f → FaultLeft input f s out a s′ out′ → Left (servedIn places (length out) input w b s sb) out w b s sb a out′ w b s′ sb
-    unfolding servedIn serve
-    serve-fault {f} e l = fault-by (readRequest places input) f (sym e ∙ is .answer) l
-
-    pub serve-parts : {count used : ℕ} → r ≡ Whole count used → PartsIn table input count
-    serve-parts e = parts-by (readRequest places input) table (sym e ∙ is .answer) (request-in places input) (is .front)
-
-    pub serve-whole : {count used : ℕ} {a : Answer} {out′ : Bytes} {w′ : List ℕ} {b′ : Bytes} {s′ : List ℕ} {sb′ : Bytes} → r ≡ Whole count used
-        → Left (wholeServed (length out) count used table input w b s sb) out w b s sb a out′ w′ b′ s′ sb′ → Left (servedIn places (length out) input w b s sb) out w b s sb a out′ w′ b′ s′ sb′
-    unfolding servedIn serve
-    serve-whole e l = whole-by (readRequest places input) table (sym e ∙ is .answer) (is .front) l
-
--- SESSION i OF THE SIXTEEN
-module _ (i : ℕ) (w : List ℕ) (b : Bytes) (sw : List ℕ) (sb out : Bytes) (h : ReadyAmong i w b sw sb out) where
-  all : Sixteen (lastWord w) sw sb
-  all = sixteen (lastWord w) sw sb (h .sessions)
-
-  ready-lent : Ready w b (lentAt 613 i sw) (lentAt 10240 i sb) out
-  ready-lent = record {
-    valid = h .valid-store;
-    one = record {
-      words = ap length (lent-words i sw sb) ∙ own-words (lastWord w) sw sb all i (h .below);
-      bytes = ap length (lent-bytes i sw sb) ∙ own-bytes (lastWord w) sw sb all i (h .below);
-    };
-    ok = (λ z. sessionOk (lastWord w) (lent-words i sw sb z) (lent-bytes i sw sb z)) ∙ all .each i (h .below);
-    cleared = h .cleared;
-  }
-
-  left-among : (input : Bytes) (places : ℕ) {r : Answer} {out′ : Bytes} {w′ : List ℕ} {b′ : Bytes} {s₁ : List ℕ} {sb₁ : Bytes}
-      → Left (servedIn places (length out) input w b (lentAt 613 i sw) (lentAt 10240 i sb)) out w b (lentAt 613 i sw) (lentAt 10240 i sb) r out′ w′ b′ s₁ sb₁
-      → LeftAmong i (servedAmong i places (length out) input w b sw sb) out w b sw sb r out′ w′ b′ (backAt 613 i sw s₁) (backAt 10240 i sb sb₁)
-  left-among input places l =
-      let same : servedIn places (length out) input w b (lentAt 613 i sw) (lentAt 10240 i sb) ≡ servedAmong i places (length out) input w b sw sb =
-      unfold servedIn servedAmong in ap (serve places (length out) input (storeIn w b)) (lent-session i sw sb) in
-      let m = left-as same l in
-      record { says = m .says; store = m .store; session-words = words-back i sw sb (m .session); session-bytes = bytes-back i sw sb (m .session) }
-
--- a session written back over itself
-rejoined : (a n : ℕ) (l : List ℕ) → take a l ++ (take n (drop a l) ++ drop (a + n) l) ≡ l
-rejoined a n l =
-    ap (λ (x : List ℕ). take a l ++ (take n (drop a l) ++ x)) (sym (drop-drop n a l)) ∙ ap (λ (x : List ℕ). take a l ++ x) (take-append-drop n (drop a l)) ∙ take-append-drop a l
-
-module _ (last i : ℕ) (sw : List ℕ) (sb : Bytes) (ok : validSessions last sw sb ≡ true) (h : i < 16) where
-  words-same : leaveSessionWords i (sessionAt i sw sb) sw sb ≡ sw
-  unfolding leaveSessionWords sessionAt
-  words-same =
-      let e : suc i * 613 ≡ i * 613 + 613 = suc-mul i 613 in
-      ap (λ (x : List ℕ). take (i * 613) sw ++ (x ++ drop (suc i * 613) sw)) (words-kept (session-held last sw sb ok i h))
-      ∙ ap (λ (m : ℕ). take (i * 613) sw ++ (wordsOfSession i sw ++ drop m sw)) e ∙ (unfold wordsOfSession in rejoined (i * 613) 613 sw)
-
-  bytes-same : leaveSessionBytes i (sessionAt i sw sb) sb ≡ sb
-  unfolding leaveSessionBytes sessionAt
-  bytes-same =
-      let e : suc i * 10240 ≡ i * 10240 + 10240 = suc-mul i 10240 in
-      ap (λ (x : List ℕ). take (i * 10240) sb ++ (x ++ drop (suc i * 10240) sb)) (bytes-kept (session-held last sw sb ok i h))
-      ∙ ap (λ (m : ℕ). take (i * 10240) sb ++ (bytesOfSession i sb ++ drop m sb)) e ∙ (unfold bytesOfSession in rejoined (i * 10240) 10240 sb)
-
--- WHAT IS LEFT, by the number that is returned
-module _ (i : ℕ) (w : List ℕ) (b : Bytes) (sw : List ℕ) (sb : Bytes) (h : i < 16) (ok : valid (lentOf w b sw sb) ≡ true) where
-  abbrev lent : Lent
-  lent = lentOf w b sw sb
-
-  store-ok : validStore w b ≡ true
-  unfolding valid
-  store-ok = and-left (validStore w b) _ ok
-
-  sessions-ok : validSessions (lastWord w) sw sb ≡ true
-  unfolding valid storeIn
-  sessions-ok = and-right (validStore w b) _ ok
-
-  module _ (d : Served) where
-    abbrev full : Lent
-    full = leaveStore (d .store) (leaveSession i (d .session) lent)
-
-    same-store : d .store ≡ storeIn w b → full ≡ leaveSession i (d .session) lent
-    unfolding leaveStore leaveSession
-    same-store e =
-        let v = validated w b refl store-ok in
-        let p : leaveWords (d .store) w ≡ w = ap (λ (st : Store). leaveWords st w) e ∙ leave-words-same w b v in
-        let q : leaveBytes (d .store) b ≡ b = ap (λ (st : Store). leaveBytes st b) e ∙ leave-bytes-same w b v in
-        λ z. record { words = p z; bytes = q z; sessionWords = leaveSessionWords i (d .session) sw sb; sessionBytes = leaveSessionBytes i (d .session) sb }
-
-    same-session : d .session ≡ sessionAt i sw sb → leaveSession i (d .session) lent ≡ lent
-    unfolding leaveSession
-    same-session e =
-        let p : leaveSessionWords i (d .session) sw sb ≡ sw = ap (λ (s : Session). leaveSessionWords i s sw sb) e ∙ words-same (lastWord w) i sw sb sessions-ok h in
-        let q : leaveSessionBytes i (d .session) sb ≡ sb = ap (λ (s : Session). leaveSessionBytes i s sb) e ∙ bytes-same (lastWord w) i sw sb sessions-ok h in
-        λ z. record { words = w; bytes = b; sessionWords = p z; sessionBytes = q z }
-
-    full-left : ServeKept (storeIn w b) (sessionAt i sw sb) d → full ≡ leaveServed i d lent
-    unfolding leaveServed
-    full-left k = go (eqb (d .number) 0) refl (eqb (d .number) 4) refl
-      where
-        go : (x : Bool) → eqb (d .number) 0 ≡ x → (y : Bool) → eqb (d .number) 4 ≡ y → full ≡ cond x full (cond y (leaveSession i (d .session) lent) lent)
-        go true p y q = refl
-        go false p true q = same-store (k .numbers (eqb-differs _ _ p) .0)
-        go false p false q =
-            let n = k .numbers (eqb-differs _ _ p) in
-            let same : d .session ≡ sessionAt i sw sb = ⊎-elim (λ (z : d .number ≡ 4). absurd (eqb-differs _ _ q z)) (λ (z : d .session ≡ sessionAt i sw sb). z) (n .1) in
-            same-store (n .0) ∙ same-session same
-
-  served-kept : (input : Bytes) (places room : ℕ) → ServeKept (storeIn w b) (sessionAt i sw sb) (serve places room input (storeIn w b) (sessionAt i sw sb))
-  served-kept input places room = let v = valid-parts lent ok in serve-kept (storeIn w b) (sessionAt i sw sb) (v .sound) (session-good lent v i h) places room input
+use Rattle.serving.specs.Serving.{ReadyAmong}
+use Rattle.calls.proofs.CallLaws.{no-session, not-valid}
 
 -- THE CALL
 module _ (i : ℕ) (w : List ℕ) (b : Bytes) (sw : List ℕ) (sb : Bytes) {n : ℕ} (n-is : n ≡ requestNumber i (lentOf w b sw sb)) where
@@ -318,60 +34,26 @@ module _ (i : ℕ) (w : List ℕ) (b : Bytes) (sw : List ℕ) (sb : Bytes) {n : 
       go true false p q = let z : _≡_ {A = ℕ} 9 0 = sym (number-as p q) ∙ e in absurd (omega arith)
       go false v p q = let z : _≡_ {A = ℕ} 1 0 = sym (number-as p q) ∙ e in absurd (omega arith)
 
-  pub request-below : n ≡ 0 → i < 16
-  request-below e = ltb-true i 16 (passed e .0)
-
-  all-sessions : n ≡ 0 → Sixteen (lastWord w) sw sb
-  all-sessions e = sixteen (lastWord w) sw sb (sessions-ok i w b sw sb (request-below e) (passed e .1))
-
-  pub request-words : n ≡ 0 → i * 613 + 613 ≤ length sw
-  request-words e = omega (arith, all-sessions e .words, request-below e)
-
-  pub request-bytes : n ≡ 0 → i * 10240 + 10240 ≤ length sb
-  request-bytes e = omega (arith, all-sessions e .bytes, request-below e)
-
   module _ (out : Bytes) {out₁ : Bytes} (cleared : out₁ ≡ replicate (length out) 0) where
     long : length out₁ ≡ length out
     long = ap length cleared ∙ length-replicate (length out) 0
 
-    request-ready : n ≡ 0 → ReadyAmong i w b sw sb out₁
-    request-ready e =
-        let p = passed e in
-        let h : i < 16 = ltb-true i 16 (p .0) in
+    pub request-ready : n ≡ 0 → ReadyAmong i w b sw sb out₁
+    request-ready e = record {
+      below = ltb-true i 16 (passed e .0);
+      fit = passed e .1;
+      cleared = cleared ∙ ap (λ (m : ℕ). replicate m 0) (sym long);
+    }
+
+    -- the promise hangs on the length of the reply buffer alone
+    pub request-served : {input : Bytes} {places : ℕ} {l : Lent} {r : Answer} {out′ : Bytes} {l′ : Lent} → RequestPromise i input places out₁ l r out′ l′ → RequestPromise i input places out l r out′ l′
+    request-served {input} {places} {l} {r} {out′} {l′} p =
+        let called : request-call i input places (length out₁) l ≡ request-call i input places (length out) l = ap (λ (m : ℕ). request-call i input places m l) long in
         record {
-          below = h;
-          valid-store = validated w b refl (store-ok i w b sw sb h (p .1));
-          sessions = sessions-ok i w b sw sb h (p .1);
-          cleared = cleared ∙ ap (λ (m : ℕ). replicate m 0) (sym long);
+          answer = p .answer ∙ ap (λ (x : Called). answerOf (x .outcome)) called;
+          reply = p .reply ∙ (λ z. replyBuffer (long z) (called z .outcome .reply));
+          lent = p .lent ∙ ap (λ (x : Called). x .lent) called;
         }
-
-    request-done : (input : Bytes) (places : ℕ) {r : Answer} {out′ : Bytes} {w′ : List ℕ} {b′ : Bytes} {sw′ : List ℕ} {sb′ : Bytes} → n ≡ 0
-        → LeftAmong i (servedAmong i places (length out₁) input w b sw sb) out₁ w b sw sb r out′ w′ b′ sw′ sb′
-        → RequestPromise i input places out (lentOf w b sw sb) r out′ (lentOf w′ b′ sw′ sb′)
-    unfolding servedAmong leaveStore leaveSession
-    request-done input places {r} {out′} {w′} {b′} {sw′} {sb′} e l =
-        let p = passed e in
-        let h : i < 16 = ltb-true i 16 (p .0) in
-        let d : Served = serve places (length out) input (storeIn w b) (sessionAt i sw sb) in
-        let same : servedAmong i places (length out₁) input w b sw sb ≡ d = ap (λ (m : ℕ). serve places m input (storeIn w b) (sessionAt i sw sb)) long in
-        let m : LeftAmong i d out₁ w b sw sb r out′ w′ b′ sw′ sb′ = subst (λ (x : Served). LeftAmong i x out₁ w b sw sb r out′ w′ b′ sw′ sb′) same l in
-        let c = sym (served i input places (length out) (lentOf w b sw sb) (p .0) (p .1)) in
-        let all : lentOf w′ b′ sw′ sb′ ≡ leaveStore (d .store) (leaveSession i (d .session) (lentOf w b sw sb)) =
-        λ z. record { words = m .store .words z; bytes = m .store .bytes z; sessionWords = m .session-words z; sessionBytes = m .session-bytes z } in
-        record {
-          answer = m .says .answer ∙ ap (λ (x : Called). answerOf (x .outcome)) c;
-          reply = m .says .reply ∙ ap (λ (k : ℕ). replyBuffer k (d .reply)) long ∙ ap (λ (x : Called). replyBuffer (length out) (x .outcome .reply)) c;
-          lent = all ∙ full-left i w b sw sb h (p .1) d (served-kept i w b sw sb h (p .1) input places (length out)) ∙ ap (λ (x : Called). x .lent) c;
-        }
-
-    -- session i is lent where no number is returned
-    pub request-lent : n ≡ 0 → Ready w b (lentAt 613 i sw) (lentAt 10240 i sb) out₁
-    request-lent e = ready-lent i w b sw sb out₁ (request-ready e)
-
-    pub request-served : (input : Bytes) (places : ℕ) {r : Answer} {out′ : Bytes} {w′ : List ℕ} {b′ : Bytes} {s₁ : List ℕ} {sb₁ : Bytes} → n ≡ 0
-        → Left (servedIn places (length out₁) input w b (lentAt 613 i sw) (lentAt 10240 i sb)) out₁ w b (lentAt 613 i sw) (lentAt 10240 i sb) r out′ w′ b′ s₁ sb₁
-        → RequestPromise i input places out (lentOf w b sw sb) r out′ (lentOf w′ b′ (backAt 613 i sw s₁) (backAt 10240 i sb sb₁))
-    request-served input places e l = request-done input places e (left-among i w b sw sb out₁ (request-ready e) input places l)
 
     -- 1 and 9 leave all
     pub request-refused : (input : Bytes) (places : ℕ) {r : Answer} → (n ≡ 0 → ⊥) → r ≡ refusal n → RequestPromise i input places out (lentOf w b sw sb) r out₁ (lentOf w b sw sb)
@@ -391,14 +73,6 @@ module _ (i : ℕ) (w : List ℕ) (b : Bytes) (sw : List ℕ) (sb : Bytes) {n : 
         go true true p q = absurd (nz (number-as p q))
         go true false p q = by 9 (number-as p q) (not-valid i input places (length out) (lentOf w b sw sb) p q)
         go false v p q = by 1 (number-as p q) (no-session i input places (length out) (lentOf w b sw sb) p)
-
-  pub request-table : (input : Bytes) (t : List ℕ) {t′ : List ℕ} → n ≡ 0 → TableHolds (readRequest (length t / 2) input) t′ → TablePromise i input (lentOf w b sw sb) t t′
-  request-table input t e k =
-      let p = passed e in
-      record {
-        parts = λ _ _. k .front;
-        unread = λ f. let z : true ≡ false = sym (and-both (ltb i 16) (valid (lentOf w b sw sb)) (p .0) (p .1)) ∙ f in let y : _≡_ {A = ℕ} 0 1 = cc in absurd (omega arith);
-      }
 
   pub request-unread : (input : Bytes) (t : List ℕ) → (n ≡ 0 → ⊥) → TablePromise i input (lentOf w b sw sb) t t
   request-unread input t nz = record {

@@ -1,94 +1,8 @@
 // A request on one of the sixteen sessions.
-use exec::closing;
-use parse::request;
-use resp::Fault;
-use resp::Read;
 use server::Answer;
-ghost use mathlib.Core.Path.{_≡_};
 ghost use Prim.Native.Nat.{_/_};
 ghost use lib.ListN.{length};
-ghost use Rattle.resp.specs.Request.{readRequest};
-ghost use Rattle.server.specs.Places.{PartsIn};
-ghost use Rattle.session.specs.Responds.{Left, Ready};
 ghost use Rattle.calls.specs.Calls.{lentOf, RequestPromise, TablePromise};
-ghost use Rattle.registry.specs.Serving.{FaultLeft, wholeServed, servedIn, TableHolds};
-
-// The reply to a protocol error, which uses all bytes and clears the session.
-fn answer_fault(input: &[u8], fault: Fault, swords: &mut [u64], out: &mut [u8]) -> Answer
-    requires { ⌜ length (now swords) ≡ 613 ⌝ }
-    ensures { λ r. ⌜ FaultLeft (now (input .entry)) fault (now (swords .entry)) (now (out .entry)) r (now (swords .exit)) (now (out .exit)) ⌝ }
-{
-    let put = refusal::put_fault(out, input, fault);
-    closing::close(swords, put, input.len())
-}
-
-// A request that was read: `count` arguments.
-fn answer_whole(
-    input: &[u8],
-    places: &[u64],
-    count: usize,
-    used: usize,
-    words: &mut [u64],
-    bytes: &mut [u8],
-    swords: &mut [u64],
-    sbytes: &mut [u8],
-    out: &mut [u8],
-) -> Answer
-    requires { ⌜ PartsIn (now places) (now input) count ⌝ }
-    requires { ⌜ Ready (now words) (now bytes) (now swords) (now sbytes) (now out) ⌝ }
-    ensures { λ r. ⌜ Left (wholeServed (length (now (out .entry))) count used (now (places .entry)) (now (input .entry)) (now (words .entry)) (now (bytes .entry)) (now (swords .entry)) (now (sbytes .entry))) (now (out .entry)) (now (words .entry)) (now (bytes .entry)) (now (swords .entry)) (now (sbytes .entry)) r (now (out .exit)) (now (words .exit)) (now (bytes .exit)) (now (swords .exit)) (now (sbytes .exit)) ⌝ }
-{
-    if count == 0 {
-        return Answer {
-            number: 0,
-            used: used,
-            reply: 0,
-        };
-    }
-    respond::respond(
-        input,
-        places,
-        count,
-        used,
-        words,
-        bytes,
-        swords,
-        sbytes,
-        out,
-    )
-}
-
-// One request on the store and one session.
-fn serve(
-    input: &[u8],
-    places: &mut [u64],
-    words: &mut [u64],
-    bytes: &mut [u8],
-    swords: &mut [u64],
-    sbytes: &mut [u8],
-    out: &mut [u8],
-) -> Answer
-    requires { ⌜ Ready (now words) (now bytes) (now swords) (now sbytes) (now out) ⌝ }
-    ensures { λ r. ⌜ Left (servedIn (length (now (places .entry)) / 2) (length (now (out .entry))) (now (input .entry)) (now (words .entry)) (now (bytes .entry)) (now (swords .entry)) (now (sbytes .entry))) (now (out .entry)) (now (words .entry)) (now (bytes .entry)) (now (swords .entry)) (now (sbytes .entry)) r (now (out .exit)) (now (words .exit)) (now (bytes .exit)) (now (swords .exit)) (now (sbytes .exit)) ⌝ }
-    ensures { λ _. ⌜ TableHolds (readRequest (length (now (places .entry)) / 2) (now (input .entry))) (now (places .exit)) ⌝ }
-{
-    match request::read(input, places) {
-        Read::Wait => answer::refusal(0),
-        Read::Faulty(fault) => answer_fault(input, fault, swords, out),
-        Read::TooMany => answer::refusal(2),
-        Read::Whole(count, used) => answer_whole(
-            input,
-            places,
-            count,
-            used,
-            words,
-            bytes,
-            swords,
-            sbytes,
-            out,
-        ),
-    }
-}
 
 // Answers the request at the front of `input` for a session: 0 or a number, the bytes used, and the length of the reply,
 // which stands in front of `out` with zero behind it. `places` holds two words for each argument.
@@ -108,19 +22,7 @@ pub fn request(
     writing::clear(out);
     let number = numbers::request_number(session, words, bytes, swords, sbytes);
     if number == 0 {
-        let from = session * 613;
-        let to = from + 613;
-        let start = session * 10240;
-        let end = start + 10240;
-        return serve(
-            input,
-            places,
-            words,
-            bytes,
-            &mut swords[from..to],
-            &mut sbytes[start..end],
-            out,
-        );
+        return serving::serve_session(session, input, places, words, bytes, swords, sbytes, out);
     }
     answer::refusal(number)
 }

@@ -4,7 +4,7 @@ use mathlib.Core.List.{[], _∷_, _++_, map, map-append, append-assoc}
 use Rattle.key.specs.Bytes.{Bytes}
 use Rattle.resp.specs.Reply.{Error, Nil, NilArray, clean, encode}
 
--- an error is one line, whatever its text
+-- CR and LF in an error are spaces: it is one line
 pub error-text : encode (Error (65 ∷ 13 ∷ 10 ∷ 66 ∷ [])) ≡ 45 ∷ 65 ∷ 32 ∷ 32 ∷ 66 ∷ 13 ∷ 10 ∷ []
 unfolding encode
 error-text = refl

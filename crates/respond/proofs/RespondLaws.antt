@@ -25,6 +25,7 @@ use Rattle.server.specs.Sessions.{yes?, queueIn, queueOf, sessionFrom, sessionW
 use Rattle.server.specs.Held.{Held}
 use Rattle.server.specs.Finish.{Served, silent, fitted, finishBy, finish}
 use Rattle.server.specs.Places.{argumentsAt, PartsIn}
+use Rattle.server.proofs.PlaceLaws.{part-in}
 use Rattle.sessions.proofs.Kept.{words-kept, bytes-kept, held-by-tests}
 use Rattle.answer.proofs.Finish.{replied}
 use Rattle.verdict.specs.Served.{Answers}
@@ -44,7 +45,7 @@ use Rattle.session.proofs.Requested.{here-answers, exec-request, run-request}
 
 -- the request's name lies in the bytes
 pub name-in : {places : List ℕ} {input : Bytes} {count : ℕ} → PartsIn places input count → 1 ≤ count → KeyIn places input 0
-name-in p h = record { words-in = omega (arith, p .table); key-in = p .inside 0 (omega arith) }
+name-in {places} {input} {count} p h = part-in places input count 0 p (omega arith)
 
 -- WHAT STAYS. A request that leaves the store leaves it as bytes too, and so for the session
 module _ (room used : ℕ) (d : Done) (st : Store) (s : Session) where

@@ -1,8 +1,7 @@
 // Commands and sessions (src/server.rs).
-pub mod errors;
-pub mod glob;
 pub mod names;
-pub mod watch;
+pub mod pattern;
+pub mod watched;
 
 // The command that a name means.
 pub enum Name {
@@ -35,4 +34,22 @@ pub struct Answer {
     pub number: u64,
     pub used: usize,
     pub reply: usize,
+}
+
+// The fixed replies.
+pub enum Fixed {
+    Ok,
+    Queued,
+    Pong,
+    NotInteger,
+    Overflow,
+    Syntax,
+    InvalidCursor,
+    BadLimit,
+    SetOptions,
+    ExecAlone,
+    DiscardAlone,
+    NestedMulti,
+    WatchInside,
+    ExecAbort,
 }

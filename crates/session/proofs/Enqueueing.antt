@@ -11,7 +11,7 @@ use Rattle.writing.specs.Puts.{Puts}
 use Rattle.resp.specs.Reply.{encode}
 use Rattle.memtable.specs.Versions.{Store}
 use Rattle.server.specs.declared.Answer.{Answer}
-use Rattle.server.specs.declared.errors.Fixed.the-variants.{Queued}
+use Rattle.server.specs.declared.Fixed.the-variants.{Queued}
 use Rattle.server.specs.Names.{Args}
 use Rattle.server.specs.Session.{says, returns, queueFits, queuedReply, marked, enqueue}
 use Rattle.server.specs.Sessions.{queueIn, sessionFrom, queueOf}

@@ -9,8 +9,8 @@ use lib.ListN.{getD}
 use Rattle.key.specs.Bytes.{Bytes, part}
 use Rattle.memtable.specs.Versions.{Store}
 use Rattle.server.specs.declared.Answer.{Answer}
-use Rattle.server.specs.declared.errors.Fixed.{Fixed}
-use Rattle.server.specs.declared.errors.Fixed.the-variants.{Ok}
+use Rattle.server.specs.declared.Fixed.{Fixed}
+use Rattle.server.specs.declared.Fixed.the-variants.{Ok}
 use Rattle.server.specs.declared.names.Control.{Control as Said}
 use Rattle.server.specs.Names.{Args, Row, rowOf, nameWord, controlOf, Control, MULTI, EXEC, DISCARD, WATCH, UNWATCH, QUIT, other}
 use Rattle.server.specs.Rows.{rowAt, Looked, controlSaid}
@@ -19,6 +19,7 @@ use Rattle.server.specs.Sessions.{yes?, queueIn, sessionFrom, multiOf}
 use Rattle.server.specs.Errors.{fixedReply}
 use Rattle.server.specs.Held.{Held, cleared, opened, unwatched}
 use Rattle.server.specs.Places.{argumentsAt}
+use Rattle.server.proofs.LayoutLaws.{flag-zero}
 use Rattle.session.specs.declared.routes.Step.{Step}
 use Rattle.session.specs.declared.routes.Step.the-variants.{Open, Unwatch, Clear, Reply}
 use Rattle.session.specs.declared.routes.Route.{Route}
@@ -131,17 +132,13 @@ exec-said false UNWATCH q e = let z : _≡_ {A = ℕ} 0 1 = cc in absurd (omega 
 exec-said false QUIT q e = let z : _≡_ {A = ℕ} 0 1 = cc in absurd (omega arith)
 exec-said false other q e = let z : _≡_ {A = ℕ} 0 1 = cc in absurd (omega arith)
 
-no-flag : (n : ℕ) → yes? n ≡ false → n ≡ 0
-no-flag zero e = refl
-no-flag (suc n) e = let z : _≡_ {A = ℕ} 0 1 = cc in absurd (omega arith)
-
 flag-set : (n : ℕ) → yes? n ≡ true → n ≡ 0 → ⊥
 flag-set n e f = let g : true ≡ false = sym e ∙ ap yes? f in let z : _≡_ {A = ℕ} 0 1 = cc in omega arith
 
 module _ (w : List ℕ) (c : Control) (q : Bool) {route : Route} (e : route ≡ routeBy (yes? (getD w 0 0)) c q) where
   pub way-asks : {way : Way} → route ≡ Here way → Taken way w
   way-asks f = record {
-    outside = λ g. no-flag (getD w 0 0) (outside-said (yes? (getD w 0 0)) c q (sym e ∙ f ∙ ap Here g));
+    outside = λ g. flag-zero (getD w 0 0) (outside-said (yes? (getD w 0 0)) c q (sym e ∙ f ∙ ap Here g));
     inside = λ g. flag-set (getD w 0 0) (inside-said (yes? (getD w 0 0)) c q (sym e ∙ f ∙ ap Here g));
   }
 

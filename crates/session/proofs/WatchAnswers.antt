@@ -13,9 +13,9 @@ use Rattle.writing.specs.Puts.{Puts}
 use Rattle.resp.specs.Reply.{Reply, encode, ok}
 use Rattle.memtable.specs.Versions.{Store}
 use Rattle.server.specs.declared.Answer.{Answer}
-use Rattle.server.specs.declared.errors.Fixed.the-variants.{Ok}
-use Rattle.server.specs.declared.watch.Grown.{Grown}
-use Rattle.server.specs.declared.watch.Grown.the-variants as grown
+use Rattle.server.specs.declared.Fixed.the-variants.{Ok}
+use Rattle.server.specs.declared.watched.Grown.{Grown}
+use Rattle.server.specs.declared.watched.Grown.the-variants as grown
 use Rattle.server.specs.Names.{rowOf, countRight, arity}
 use Rattle.server.specs.Rows.{rowAt, Looked}
 use Rattle.server.specs.Session.{Session, says, returns, addKeys, watchFits}

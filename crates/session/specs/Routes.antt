@@ -6,7 +6,7 @@ use mathlib.Core.List.{List}
 use lib.ListN.{length, getD}
 use Rattle.key.specs.Keys.{Key}
 use Rattle.memtable.specs.Versions.{Store}
-use Rattle.server.specs.declared.errors.Fixed.the-variants.{Ok, ExecAlone, DiscardAlone, NestedMulti, WatchInside}
+use Rattle.server.specs.declared.Fixed.the-variants.{Ok, ExecAlone, DiscardAlone, NestedMulti, WatchInside}
 use Rattle.server.specs.Names.{Args, Row, nameWord, arguments, countRight, arity, Control, MULTI, EXEC, DISCARD, WATCH, UNWATCH, QUIT, other}
 use Rattle.server.specs.Command.{executedOf}
 use Rattle.server.specs.Session.{Session, Done, says, returns, direct, watchFits, enqueue, marked, notQueueable, execute}

@@ -1,6 +1,6 @@
 // Replies that leave store and session.
 use server::Answer;
-use server::errors::Fixed;
+use server::Fixed;
 ghost use mathlib.Core.Path.{_≡_};
 ghost use lib.ListN.{length, replicate};
 ghost use Rattle.server.specs.Errors.{fixedReply, arityOf};

@@ -1,6 +1,6 @@
 // A command inside MULTI that may be queued.
 use server::Answer;
-use server::errors::Fixed;
+use server::Fixed;
 use writing::Put;
 ghost use mathlib.Core.Path.{_≡_};
 ghost use lib.ListN.{length, getD, replicate};

@@ -1,5 +1,5 @@
 // Which of the ways to answer a request has, by the session and the row of its name.
-use server::errors::Fixed;
+use server::Fixed;
 use server::names;
 use server::names::Control;
 ghost use mathlib.Core.Path.{_≡_};

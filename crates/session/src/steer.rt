@@ -2,11 +2,11 @@
 use crate::answers;
 use crate::routes::Step;
 use server::Answer;
-use server::errors::Fixed;
+use server::Fixed;
 use writing::Put;
 ghost use mathlib.Core.Path.{_≡_};
 ghost use lib.ListN.{length, getD, replicate};
-ghost use Rattle.server.specs.declared.errors.Fixed.the-variants as fixed;
+ghost use Rattle.server.specs.declared.Fixed.the-variants as fixed;
 ghost use Rattle.server.specs.Session.{marked, notQueueable};
 ghost use Rattle.server.specs.Errors.{fixedReply};
 ghost use Rattle.server.specs.Held.{cleared, opened, unwatched};

@@ -1,9 +1,9 @@
 // WATCH outside MULTI.
 use crate::answers;
 use server::Answer;
-use server::errors::Fixed;
+use server::Fixed;
 use server::names;
-use server::watch::Grown;
+use server::watched::Grown;
 use writing::Put;
 ghost use mathlib.Core.Path.{_≡_};
 ghost use Prim.Native.Nat.{_-_, _≤_};

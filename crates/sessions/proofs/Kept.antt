@@ -13,12 +13,13 @@ use lib.Seq.{drop-drop, take-all, take-take}
 use Rattle.key.specs.Bytes.{Bytes, _and_, part, over-front, concat, total}
 use Rattle.key.proofs.Bytes.{and-left, and-right, length-part}
 use Rattle.server.specs.Names.{Args}
-use Rattle.server.specs.Session.{Session, clear, marked}
+use Rattle.server.specs.Session.{clear, marked}
 use Rattle.server.specs.Sessions.{splitBy, keysIn, queueIn, yes?, watchFrom, sessionFrom, ascending, allQueueable, watchOk, queueOk, sessionOk, flagWord, multiOf, queueOf, keysHeld, snapshotOr, sessionWords, sessionBytes, wordsOfSession, bytesOfSession, sessionsOkIn, validSessions}
 use Rattle.server.specs.Lent.{OneSession, QueueIn, queueSizesOk}
 use Rattle.server.specs.Held.{Held, Left, cleared, opened, unwatched}
+use Rattle.server.proofs.LayoutLaws.{flag-nonzero}
 use Rattle.server.proofs.Parts.{part-add, split-length, split-lengths, split-concat, over-own}
-use Rattle.sessions.proofs.SessionTests.{yes-not, sizes-in, queue-as, sessions-true, sessions-false}
+use Rattle.sessions.proofs.SessionTests.{sizes-in, queue-as, sessions-true, sessions-false}
 
 -- THE SHAPE of 613 words and 10,240 bytes.
 five : (w : List ℕ) → 5 ≤ length w → w ≡ getD w 0 0 ∷ getD w 1 0 ∷ getD w 2 0 ∷ getD w 3 0 ∷ getD w 4 0 ∷ drop 5 w
@@ -302,4 +303,4 @@ pub flag-no : (n : ℕ) → n ≡ 0 → false ≡ yes? n
 flag-no n e = rw e
 
 pub flag-yes : (n : ℕ) → (n ≡ 0 → ⊥) → true ≡ yes? n
-flag-yes n h = sym (yes-not n h)
+flag-yes n h = sym (flag-nonzero n h)

@@ -2,7 +2,7 @@
 use mathlib.Core.Path.{_≡_, refl, sym, ap, _∙_, subst}
 use mathlib.Core.Bool.{Bool, true, false, cond}
 use mathlib.Core.List.{List}
-use Prim.Native.Nat.{ℕ, zero, suc, _+_, _-_, _*_, _<_, _≤_}
+use Prim.Native.Nat.{ℕ, suc, _+_, _-_, _*_, _<_, _≤_}
 use native.Mathlib.Omega.{arith}
 use borrow.Author.Tests.{le-leb, lt-leb, leb-true, leb-false}
 use lib.Dec.{leb, eqb}
@@ -12,6 +12,7 @@ use Rattle.key.specs.Bytes.{Bytes, _and_, part, total}
 use Rattle.key.proofs.Bytes.{and-left, and-right, length-part}
 use Rattle.server.specs.Sessions.{splitBy, ascending, allPositive, allQueueable, yes?, keysIn, queueIn, watchOk, queueOk, sessionOk, sessionsOkIn, validSessions}
 use Rattle.server.specs.Lent.{capped, OneSession, KeysIn, QueueIn, queueSizesOk}
+use Rattle.server.proofs.LayoutLaws.{flag-nonzero}
 use Rattle.sessions.proofs.Validity.{capped-low, capped-high}
 
 -- a capped number is above the limit if and only if the number is
@@ -28,10 +29,6 @@ capped-within limit n h = go (leb n limit) refl
     go : (v : Bool) → leb n limit ≡ v → n ≤ limit
     go true e = leb-true n limit e
     go false e = let c = capped-high limit n (leb-false n limit e) in absurd (omega arith)
-
-pub yes-not : (n : ℕ) → (n ≡ 0 → ⊥) → yes? n ≡ true
-yes-not zero h = absurd (h refl)
-yes-not (suc n) h = refl
 
 -- THE WATCH. `n` is the count of watched keys, `s` what their lengths sum to, `v` whether they ascend.
 module _ (last : ℕ) (w : List ℕ) (b : Bytes) {n : ℕ} (e : n ≡ getD w 3 0) where
@@ -62,7 +59,7 @@ module _ (last : ℕ) (w : List ℕ) (b : Bytes) {n : ℕ} (e : n ≡ getD w 3 0
 
         pub snapshot-test : v ≡ true → (n ≡ 0 → ⊥) → leb (getD w 2 0) last ≡ watchOk last w b
         unfolding watchOk keysIn _and_
-        snapshot-test t z = rw (← e, le-leb n 32 few, le-leb (total (part 5 n w)) 2048 keys-total, ← a, t, yes-not n z)
+        snapshot-test t z = rw (← e, le-leb n 32 few, le-leb (total (part 5 n w)) 2048 keys-total, ← a, t, flag-nonzero n z)
 
 -- THE SIZES OF THE QUEUE. `n` is the count of commands, `s` of arguments, `t` of their bytes.
 module _ (w : List ℕ) {n : ℕ} (e : n ≡ getD w 4 0) where
@@ -157,7 +154,7 @@ module _ (w : List ℕ) (b : Bytes) {s : Bool} (is : s ≡ queueSizesOk w) where
       outside f z = sym (queue-then f ∙ rw z)
 
       pub inside : v ≡ true → (getD w 0 0 ≡ 0 → ⊥) → true ≡ queueOk w b
-      inside f z = sym (queue-then f ∙ rw (yes-not (getD w 0 0) z))
+      inside f z = sym (queue-then f ∙ rw (flag-nonzero (getD w 0 0) z))
 
 -- ONE SESSION.
 module _ (last : ℕ) (w : List ℕ) (b : Bytes) {v : Bool} (a : v ≡ watchOk last w b) where

@@ -14,6 +14,7 @@ use Rattle.server.specs.Names.{Row, rowOf, nameWord}
 use Rattle.server.specs.Rows.{rowAt, Looked}
 use Rattle.server.specs.Sessions.{splitBy, ascending, ascendingAfter, allPositive, allQueueable, yes?}
 use Rattle.server.specs.Lent.{capped, KeysIn, QueueIn}
+use Rattle.server.proofs.LayoutLaws.{flag-nonzero}
 use Rattle.server.proofs.Parts.{part-cons, total-append, part-next, part-none, part-start, part-part, part-add, take-part, drop-part, split-drop}
 
 -- A CAPPED NUMBER.
@@ -69,16 +70,12 @@ pub record Positive (w : List ℕ) (count i : ℕ) : Type 0 where
 pub positive-none : (w : List ℕ) (count : ℕ) → Positive w count 0
 positive-none w count = record { within = omega arith; is = ap allPositive (part-start w 37 count) }
 
-not-zero : (n : ℕ) → (n ≡ 0 → ⊥) → yes? n ≡ true
-not-zero zero h = absurd (h refl)
-not-zero (suc n) h = refl
-
 module _ {w : List ℕ} {count i : ℕ} (p : Positive w count i) where
   pub positive-more : {n : ℕ} → n ≡ getD w (37 + i) 0 → (n ≡ 0 → ⊥) → i < count → 37 + count ≤ length w → Positive w count (i + 1)
   unfolding allPositive _and_
   positive-more {n} e ne h k = record {
     within = omega arith;
-    is = p .is ∙ ap allPositive (part-next w 37 count i 0 h k) ∙ ap (λ (v : Bool). v and allPositive (part (37 + (i + 1)) (count - (i + 1)) w)) (ap yes? (sym e) ∙ not-zero n ne);
+    is = p .is ∙ ap allPositive (part-next w 37 count i 0 h k) ∙ ap (λ (v : Bool). v and allPositive (part (37 + (i + 1)) (count - (i + 1)) w)) (ap yes? (sym e) ∙ flag-nonzero n ne);
   }
 
   pub zero-here : {n : ℕ} → n ≡ getD w (37 + i) 0 → n ≡ 0 → i < count → 37 + count ≤ length w → false ≡ allPositive (part 37 count w)

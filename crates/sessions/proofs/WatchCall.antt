@@ -10,7 +10,7 @@ use Rattle.memtable.specs.Moves.{putAt}
 use Rattle.key.proofs.Bytes.{length-part}
 use Rattle.key.specs.Bytes.{Bytes, part, over-front, concat, total}
 use Rattle.key.specs.Keys.{Key}
-use Rattle.server.specs.declared.watch.Grown.{Grown}
+use Rattle.server.specs.declared.watched.Grown.{Grown}
 use Rattle.server.specs.Session.{watchOr, addKeys, watchFits}
 use Rattle.server.specs.Sessions.{splitBy, keysIn, yes?, watchFrom, sessionFrom, sessionWords, sessionBytes}
 use Rattle.server.specs.Lent.{capped}

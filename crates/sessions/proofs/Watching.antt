@@ -20,15 +20,16 @@ use Rattle.key.specs.Keys.{Key, compareKeys}
 use Rattle.server.specs.Session.{addKey, addKeys, watchFits}
 use Rattle.server.specs.Sessions.{splitBy}
 use Rattle.server.specs.Places.{argumentsAt, PartsIn}
+use Rattle.server.proofs.PlaceLaws.{arguments-next, arguments-end}
 use Rattle.server.specs.Watch.{keysOf, KeysAt, insertedAt, SpotAt, Spotted, Holding, GrownTo, WatchTable}
 use Rattle.server.proofs.Parts.{split-drop, split-length, split-lengths, split-concat, over-own, total-append}
 use Rattle.sessions.proofs.Writes.{written-one}
 use Rattle.sessions.proofs.Queueing.{map-append, concat-append, concat-length}
 use Rattle.key.proofs.Bytes.{length-over-front, over-front-again}
-use Rattle.server.specs.declared.watch.Spot.{Spot}
-use Rattle.server.specs.declared.watch.Spot.the-variants as spot
-use Rattle.server.specs.declared.watch.Grown.{Grown}
-use Rattle.server.specs.declared.watch.Grown.the-variants as grown
+use Rattle.server.specs.declared.watched.Spot.{Spot}
+use Rattle.server.specs.declared.watched.Spot.the-variants as spot
+use Rattle.server.specs.declared.watched.Grown.{Grown}
+use Rattle.server.specs.declared.watched.Grown.the-variants as grown
 
 -- THE PLACE OF A KEY.
 add-less : (k j : Key) (js : List Key) → compareKeys k j ≡ Less → addKey k (j ∷ js) ≡ k ∷ j ∷ js
@@ -405,12 +406,6 @@ growing-none p s from to lens text count used t h = record {
   is = refl;
 }
 
-pub arguments-next : (p : List ℕ) (s : Bytes) (to i : ℕ) → i < to → argumentsAt i (to - i) p s ≡ part (getD p (2 * i) 0) (getD p (2 * i + 1) 0) s ∷ argumentsAt (i + 1) (to - (i + 1)) p s
-unfolding argumentsAt
-arguments-next p s to i h =
-    let e : to - i ≡ suc (to - (i + 1)) = omega arith in
-    ap (λ (n : ℕ). argumentsAt i n p s) e ∙ ap (λ (n : ℕ). part (getD p (2 * i) 0) (getD p (2 * i + 1) 0) s ∷ argumentsAt n (to - (i + 1)) p s) (sym (add-one i))
-
 module _ {p : List ℕ} {s : Bytes} {from to : ℕ} {lens : List ℕ} {text : Bytes} {count : ℕ} {lens′ : List ℕ} {text′ : Bytes} {n u i : ℕ} (g : Growing p s from to lens text count lens′ text′ n u i) where
   module _ {start len : ℕ} (e : start ≡ getD p (2 * i) 0) (f : len ≡ getD p (2 * i + 1) 0) (h : i < to) where
     step-is : addKeys (argumentsAt from (to - from) p s) (keysOf lens text count)
@@ -418,7 +413,7 @@ module _ {p : List ℕ} {s : Bytes} {from to : ℕ} {lens : List ℕ} {text : By
     unfolding addKeys
     step-is =
         let m : start + len - start ≡ getD p (2 * i + 1) 0 = omega arith in
-        g .is ∙ ap (λ (l : List Key). addKeys l (keysOf lens′ text′ n)) (arguments-next p s to i h)
+        g .is ∙ ap (λ (l : List Key). addKeys l (keysOf lens′ text′ n)) (arguments-next p s h)
         ∙ sym (λ z. addKeys (argumentsAt (i + 1) (to - (i + 1)) p s) (addKey (part (e z) (m z) s) (keysOf lens′ text′ n)))
 
     pub growing-full : watchFits (addKey (part start (start + len - start) s) (keysOf lens′ text′ n)) ≡ false → watchFits (addKeys (argumentsAt from (to - from) p s) (keysOf lens text count)) ≡ false
@@ -447,10 +442,9 @@ module _ {p : List ℕ} {s : Bytes} {from to : ℕ} {lens : List ℕ} {text : By
   key-inside ps h = ps .inside i h
 
   pub grown-all : to ≤ i → Holding (addKeys (argumentsAt from (to - from) p s) (keysOf lens text count)) lens lens′ text text′ n u
-  unfolding argumentsAt addKeys
+  unfolding addKeys
   grown-all h =
-      let e : to - i ≡ 0 = omega arith in
-      subst (λ (js : List Key). Holding js lens lens′ text text′ n u) (sym (g .is ∙ ap (λ (m : ℕ). addKeys (argumentsAt i m p s) (keysOf lens′ text′ n)) e)) (g .holding)
+      subst (λ (js : List Key). Holding js lens lens′ text text′ n u) (sym (g .is ∙ ap (λ (l : List Key). addKeys l (keysOf lens′ text′ n)) (arguments-end p s h))) (g .holding)
 
 pub grown-holding : (js : List Key) (lens lens′ : List ℕ) (text text′ : Bytes) {r : Grown} {n u : ℕ} → GrownTo js lens lens′ text text′ r → r ≡ grown.To n u → Holding js lens lens′ text text′ n u
 grown-holding js lens lens′ text text′ a e = subst (GrownTo js lens lens′ text text′) e a

@@ -1,5 +1,5 @@
 -- The readings of a table meet their definitions: a value and a live key at the place that was found. Assumes nothing.
-use Prim.Native.Nat.{ℕ, suc, _+_, _-_, _<_}
+use Prim.Native.Nat.{ℕ, suc, _+_, _-_}
 use native.Mathlib.Omega.{arith}
 use mathlib.Core.Path.{_≡_, refl, sym, _∙_, ap}
 use mathlib.Core.Bool.{Bool, true, false, cond}
@@ -8,10 +8,9 @@ use Rattle.memtable.specs.declared.Found.{Found}
 use Rattle.memtable.specs.declared.Found.the-variants.{At, Nothing}
 use Rattle.memtable.specs.Versions.{findFrom, readAt}
 use Rattle.memtable.specs.Layout.{countWord, lastWord, startWord, keyWord, valueWord, validStore}
-use Rattle.memtable.specs.Rows.{liveFound, valueFound, versionsIn, Valid, RowIn}
+use Rattle.memtable.specs.Rows.{liveFound, valueFound, versionsIn}
 use Rattle.memtable.specs.Walk.{nextLive}
-use Rattle.memtable.proofs.Rows.{row-of, read-found}
-use Rattle.memtable.proofs.Walk.{walk-entry}
+use Rattle.memtable.proofs.Rows.{read-found}
 use Rattle.station.specs.declared.Reading.{Reading}
 use Rattle.station.specs.declared.Listed.{Listed}
 use Rattle.station.specs.Station.{readingAt, noReading, readingOf, lastReading, read-call, valueRead, listedAt, noListed, listedOf, nextListed, entry-call}
@@ -38,12 +37,6 @@ module _ (w b k : List ℕ) {o : Found} (is : o ≡ liveFound w (findFrom 0 (ver
 
 -- the first live key from a place on
 module _ (w b : List ℕ) (from : ℕ) {o : Found} (is : o ≡ nextLive w b from (countWord w - from)) where
-  pub entry-below : {i : ℕ} → o ≡ At i → i < countWord w
-  entry-below {i} e = let h = walk-entry w b from (countWord w - from) i (sym is ∙ e) in omega (arith, h .0, h .1 .0)
-
-  pub entry-row : {i : ℕ} → Valid w b → o ≡ At i → RowIn w b i
-  entry-row {i} v e = row-of w b i v (entry-below e)
-
   pub entry-found : {i : ℕ} {r : Listed} → o ≡ At i → r ≡ listedAt w i → r ≡ nextListed w b from
   unfolding nextListed listedOf
   entry-found e r-is = r-is ∙ ap (listedOf w) (sym e ∙ is)

@@ -1,4 +1,4 @@
-// Opening an empty store, and the room that is left in one.
+// Opening an empty store, and what a write leaves of some bytes.
 use crate::valid;
 use memtable::open::Left;
 use memtable::read;
@@ -6,8 +6,8 @@ ghost use mathlib.Core.Path.{_≡_};
 ghost use mathlib.Core.Bool.{cond};
 ghost use Prim.Native.Nat.{_+_, _≤_};
 ghost use lib.ListN.{length};
-ghost use Rattle.memtable.specs.Layout.{countWord, usedWord, mostVersionsWord, mostBytesWord, buffersHold, emptyStore, leaveWords};
-ghost use Rattle.memtable.specs.Rows.{bytesLeft, roomIn};
+ghost use Rattle.memtable.specs.Layout.{buffersHold, emptyStore, leaveWords};
+ghost use Rattle.memtable.specs.Rows.{bytesLeft};
 
 // Writes the header of an empty store.
 fn write_header(words: &mut [u64], last: u64, versions: u64, size: u64)
@@ -31,22 +31,6 @@ pub fn open(words: &mut [u64], bytes: &[u8], last: u64, versions: usize, size: u
         return true;
     }
     false
-}
-
-// Is there room for so many more versions and bytes?
-pub fn room(words: &[u64], versions: usize, size: usize) -> bool
-    requires { ⌜ 5 ≤ length (now words) ⌝ }
-    requires { ⌜ countWord (now words) ≤ mostVersionsWord (now words) ⌝ }
-    requires { ⌜ usedWord (now words) ≤ mostBytesWord (now words) ⌝ }
-    ensures { λ r. ⌜ r ≡ roomIn (now (words .entry)) versions size ⌝ }
-{
-    if read::word(words, 3) - read::word(words, 0) < versions {
-        return false;
-    }
-    if read::word(words, 4) - read::word(words, 1) < size {
-        return false;
-    }
-    true
 }
 
 // What a key and a value leave of `left` bytes. It subtracts, so that no sum wraps.

@@ -1,6 +1,5 @@
 -- The laws of this crate.
 pub mod Commits
-pub mod Lengths
 pub mod Reading
 pub mod Served
 pub mod Writes

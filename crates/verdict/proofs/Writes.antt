@@ -1,10 +1,9 @@
--- The writes of a command outside MULTI: laws of its arguments, of its commit, and of the verdict. Assumes nothing.
-use Prim.Native.Nat.{ℕ, suc, _+_, _-_, _*_, _^_, _≤_, _<_}
-use native.Mathlib.Numerals.{add-one}
+-- The writes of a command outside MULTI: laws of its commit and of the verdict. Assumes nothing.
+use Prim.Native.Nat.{ℕ, _+_, _-_, _*_, _^_, _≤_, _<_}
 use native.Mathlib.Omega.{arith}
 use mathlib.Core.Path.{_≡_, refl, sym, ap, _∙_, subst}
 use mathlib.Core.Bool.{Bool, true, false}
-use mathlib.Core.List.{List, [], _∷_, map}
+use mathlib.Core.List.{List, [], _∷_}
 use mathlib.Core.Option.{some}
 use lib.Dec.{ltb}
 use lib.ListN.{length, getD}
@@ -17,11 +16,12 @@ use Rattle.memtable.specs.Versions.{bytesOf, writesSize, commitOne, commit}
 use Rattle.memtable.specs.Layout.{countWord, lastWord, mostVersionsWord, storeIn, leaveWords, leaveBytes}
 use Rattle.memtable.specs.Rows.{Valid, RoomForOne, valueIf, bytesLeft}
 use Rattle.batch.specs.declared.Verdict.the-variants.{Accepted, NoRoom, NoSequence}
+use Rattle.batch.specs.Settling.{KeyIn}
 use Rattle.batch.proofs.SizeLaws.{left-rest, left-then, short-then}
-use Rattle.server.specs.Command.{tombstone, put, pairsOf}
-use Rattle.server.specs.Places.{argumentsAt, lengthsAt, PartsIn}
-use Rattle.server.proofs.PlaceLaws.{lengths-next, lengths-end}
-use Rattle.verdict.specs.Writes.{argumentIn, ArgumentIn, tombstonesAt, pairsAt, RoomForAll, verdictLeft}
+use Rattle.server.specs.Command.{tombstone}
+use Rattle.server.specs.Places.{argumentAt, lengthsAt, tombstonesAt, pairsAt, PartsIn}
+use Rattle.server.proofs.PlaceLaws.{part-in, lengths-next, lengths-end, tombstones-next, tombstones-end, pairs-next, pairs-end}
+use Rattle.verdict.specs.Writes.{RoomForAll, verdictLeft}
 use Rattle.verdict.proofs.Commits.{Commits, commits-none, commits-valid, commits-words, commits-bytes, commits-more}
 
 -- ONE WRITE, whose key and value are the parts that were taken
@@ -61,37 +61,6 @@ module _ (w b : List ℕ) {k name : Bytes} (name-is : name ≡ k) where
     unfolding valueIf
     pair-bytes e = e ∙ (λ z. leaveBytes (commitOne (name-is z, some (value-is z)) (storeIn w b)) b)
 
--- THE ARGUMENTS
-pub argument-in : {p : List ℕ} {s : Bytes} {count : ℕ} → PartsIn p s count → (k : ℕ) → k < count → ArgumentIn p s k
-argument-in q k h = record { words-in = omega (arith, q .table); inside = q .inside k h }
-
-tombstones-next : (p : List ℕ) (s : Bytes) (i to : ℕ) → i < to
-    → tombstonesAt i (to - i) p s ≡ tombstone (argumentIn p s i) ∷ tombstonesAt (i + 1) (to - (i + 1)) p s
-unfolding tombstonesAt argumentsAt
-tombstones-next p s i to h =
-    let e : to - i ≡ suc (to - (i + 1)) = omega arith in
-    ap (λ (n : ℕ). map tombstone (argumentsAt i n p s)) e
-    ∙ ap (λ (n : ℕ). tombstone (argumentIn p s i) ∷ map tombstone (argumentsAt n (to - (i + 1)) p s)) (sym (add-one i))
-
-tombstones-end : (p : List ℕ) (s : Bytes) (i to : ℕ) → to ≤ i → tombstonesAt i (to - i) p s ≡ []
-unfolding tombstonesAt argumentsAt
-tombstones-end p s i to h = let e : to - i ≡ 0 = omega arith in ap (λ (n : ℕ). map tombstone (argumentsAt i n p s)) e
-
-pairs-next : (p : List ℕ) (s : Bytes) (from pairs j : ℕ) → j < pairs
-    → pairsAt (from + 2 * j) (pairs - j) p s
-    ≡ (argumentIn p s (from + 2 * j), some (argumentIn p s (from + 2 * j + 1))) ∷ pairsAt (from + 2 * (j + 1)) (pairs - (j + 1)) p s
-unfolding pairsAt argumentsAt pairsOf
-pairs-next p s from pairs j h =
-    let e : 2 * (pairs - j) ≡ suc (suc (2 * (pairs - (j + 1)))) = omega arith in
-    let f : suc (suc (from + 2 * j)) ≡ from + 2 * (j + 1) = omega arith in
-    let g : suc (from + 2 * j) ≡ from + 2 * j + 1 = omega arith in
-    ap (λ (n : ℕ). map put (pairsOf (argumentsAt (from + 2 * j) n p s))) e
-    ∙ (λ z. (argumentIn p s (from + 2 * j), some (argumentIn p s (g z))) ∷ map put (pairsOf (argumentsAt (f z) (2 * (pairs - (j + 1))) p s)))
-
-pairs-end : (p : List ℕ) (s : Bytes) (from pairs j : ℕ) → pairs ≤ j → pairsAt (from + 2 * j) (pairs - j) p s ≡ []
-unfolding pairsAt argumentsAt pairsOf
-pairs-end p s from pairs j h = let e : 2 * (pairs - j) ≡ 0 = omega arith in ap (λ (n : ℕ). map put (pairsOf (argumentsAt (from + 2 * j) n p s))) e
-
 -- THE COMMITS. The keys before place i have their tombstones
 pub record Deleting (p : List ℕ) (s : Bytes) (from to : ℕ) (w₀ b₀ w b : List ℕ) (i : ℕ) : Type 0 where
   pub within : i ≤ to
@@ -112,22 +81,22 @@ module _ {p : List ℕ} {s : Bytes} {from to : ℕ} {w₀ b₀ w b : List ℕ} {
   deleting-valid = commits-valid (d .commits)
 
   module _ (h : i < to) where
-    next-commits : Commits (tombstonesAt from (to - from) p s) (tombstone (argumentIn p s i) ∷ tombstonesAt (i + 1) (to - (i + 1)) p s) w₀ b₀ w b
-    next-commits = subst (λ (l : List Write). Commits (tombstonesAt from (to - from) p s) l w₀ b₀ w b) (tombstones-next p s i to h) (d .commits)
+    next-commits : Commits (tombstonesAt from (to - from) p s) (tombstone (argumentAt i p s) ∷ tombstonesAt (i + 1) (to - (i + 1)) p s) w₀ b₀ w b
+    next-commits = subst (λ (l : List Write). Commits (tombstonesAt from (to - from) p s) l w₀ b₀ w b) (tombstones-next p s h) (d .commits)
 
-    pub deleting-argument : PartsIn p s to → ArgumentIn p s i
-    deleting-argument q = argument-in q i h
+    pub deleting-argument : PartsIn p s to → KeyIn p s (2 * i)
+    deleting-argument q = part-in p s to i q h
 
-    pub deleting-room : RoomForAll w (tombstone (argumentIn p s i) ∷ [])
+    pub deleting-room : RoomForAll w (tombstone (argumentAt i p s) ∷ [])
     deleting-room = one-room (next-commits .room)
 
-    pub deleting-more : {w′ b′ : List ℕ} → w′ ≡ leaveWords (commitOne (tombstone (argumentIn p s i)) (storeIn w b)) w
-        → b′ ≡ leaveBytes (commitOne (tombstone (argumentIn p s i)) (storeIn w b)) b → Deleting p s from to w₀ b₀ w′ b′ (i + 1)
+    pub deleting-more : {w′ b′ : List ℕ} → w′ ≡ leaveWords (commitOne (tombstone (argumentAt i p s)) (storeIn w b)) w
+        → b′ ≡ leaveBytes (commitOne (tombstone (argumentAt i p s)) (storeIn w b)) b → Deleting p s from to w₀ b₀ w′ b′ (i + 1)
     deleting-more e f = let m = commits-more next-commits e f in record { within = omega arith; commits = m; same-words = m .same-words; same-bytes = m .same-bytes }
 
   module _ (h : to ≤ i) where
     all-commits : Commits (tombstonesAt from (to - from) p s) [] w₀ b₀ w b
-    all-commits = subst (λ (l : List Write). Commits (tombstonesAt from (to - from) p s) l w₀ b₀ w b) (tombstones-end p s i to h) (d .commits)
+    all-commits = subst (λ (l : List Write). Commits (tombstonesAt from (to - from) p s) l w₀ b₀ w b) (tombstones-end p s h) (d .commits)
 
     pub deleted-words : w ≡ leaveWords (commit (tombstonesAt from (to - from) p s) (storeIn w₀ b₀)) w₀
     deleted-words = commits-words all-commits
@@ -138,18 +107,18 @@ module _ {p : List ℕ} {s : Bytes} {from to : ℕ} {w₀ b₀ w b : List ℕ} {
 -- the first j pairs are put
 pub record Setting (p : List ℕ) (s : Bytes) (from pairs : ℕ) (w₀ b₀ w b : List ℕ) (j : ℕ) : Type 0 where
   pub within : j ≤ pairs
-  pub commits : Commits (pairsAt from pairs p s) (pairsAt (from + 2 * j) (pairs - j) p s) w₀ b₀ w b
+  pub commits : Commits (pairsAt from (2 * pairs) p s) (pairsAt (from + 2 * j) (2 * (pairs - j)) p s) w₀ b₀ w b
   pub same-words : length w ≡ length w₀
   pub same-bytes : length b ≡ length b₀
 
-pub setting-none : (p : List ℕ) (s : Bytes) (from pairs : ℕ) (w b : List ℕ) → Valid w b → RoomForAll w (pairsAt from pairs p s)
+pub setting-none : (p : List ℕ) (s : Bytes) (from pairs : ℕ) (w b : List ℕ) → Valid w b → RoomForAll w (pairsAt from (2 * pairs) p s)
     → Setting p s from pairs w b w b 0
 setting-none p s from pairs w b v r =
     let f : from ≡ from + 2 * 0 = omega arith in
-    let n : pairs ≡ pairs - 0 = omega arith in
+    let n : 2 * pairs ≡ 2 * (pairs - 0) = omega arith in
     record {
       within = omega arith;
-      commits = subst (λ (l : List Write). Commits (pairsAt from pairs p s) l w b w b) (λ z. pairsAt (f z) (n z) p s) (commits-none _ w b v r);
+      commits = subst (λ (l : List Write). Commits (pairsAt from (2 * pairs) p s) l w b w b) (λ z. pairsAt (f z) (n z) p s) (commits-none _ w b v r);
       same-words = refl;
       same-bytes = refl;
     }
@@ -159,31 +128,35 @@ module _ {p : List ℕ} {s : Bytes} {from pairs : ℕ} {w₀ b₀ w b : List ℕ
   setting-valid = commits-valid (d .commits)
 
   module _ (h : j < pairs) where
-    next-puts : Commits (pairsAt from pairs p s) ((argumentIn p s (from + 2 * j), some (argumentIn p s (from + 2 * j + 1))) ∷ pairsAt (from + 2 * (j + 1)) (pairs - (j + 1)) p s) w₀ b₀ w b
-    next-puts = subst (λ (l : List Write). Commits (pairsAt from pairs p s) l w₀ b₀ w b) (pairs-next p s from pairs j h) (d .commits)
+    next-puts : Commits (pairsAt from (2 * pairs) p s) ((argumentAt (from + 2 * j) p s, some (argumentAt (from + 2 * j + 1) p s)) ∷ pairsAt (from + 2 * (j + 1)) (2 * (pairs - (j + 1))) p s) w₀ b₀ w b
+    next-puts =
+        let f : from + 2 * j + 2 ≡ from + 2 * (j + 1) = omega arith in
+        let first : Write = (argumentAt (from + 2 * j) p s, some (argumentAt (from + 2 * j + 1) p s)) in
+        subst (λ (l : List Write). Commits (pairsAt from (2 * pairs) p s) l w₀ b₀ w b)
+        (pairs-next p s (from + 2 * j) (2 * (pairs - j)) (2 * (pairs - (j + 1))) (omega arith) ∙ ap (λ (k : ℕ). first ∷ pairsAt k (2 * (pairs - (j + 1))) p s) f) (d .commits)
 
-    pub setting-key : PartsIn p s (from + 2 * pairs) → ArgumentIn p s (from + 2 * j)
-    setting-key q = argument-in q (from + 2 * j) (omega arith)
+    pub setting-key : PartsIn p s (from + 2 * pairs) → KeyIn p s (2 * (from + 2 * j))
+    setting-key q = part-in p s (from + 2 * pairs) (from + 2 * j) q (omega arith)
 
-    pub setting-value : PartsIn p s (from + 2 * pairs) → ArgumentIn p s (from + 2 * j + 1)
-    setting-value q = argument-in q (from + 2 * j + 1) (omega arith)
+    pub setting-value : PartsIn p s (from + 2 * pairs) → KeyIn p s (2 * (from + 2 * j + 1))
+    setting-value q = part-in p s (from + 2 * pairs) (from + 2 * j + 1) q (omega arith)
 
-    pub setting-room : RoomForAll w ((argumentIn p s (from + 2 * j), some (argumentIn p s (from + 2 * j + 1))) ∷ [])
+    pub setting-room : RoomForAll w ((argumentAt (from + 2 * j) p s, some (argumentAt (from + 2 * j + 1) p s)) ∷ [])
     setting-room = one-room (next-puts .room)
 
-    pub setting-more : {w′ b′ : List ℕ} → w′ ≡ leaveWords (commitOne (argumentIn p s (from + 2 * j), some (argumentIn p s (from + 2 * j + 1))) (storeIn w b)) w
-        → b′ ≡ leaveBytes (commitOne (argumentIn p s (from + 2 * j), some (argumentIn p s (from + 2 * j + 1))) (storeIn w b)) b
+    pub setting-more : {w′ b′ : List ℕ} → w′ ≡ leaveWords (commitOne (argumentAt (from + 2 * j) p s, some (argumentAt (from + 2 * j + 1) p s)) (storeIn w b)) w
+        → b′ ≡ leaveBytes (commitOne (argumentAt (from + 2 * j) p s, some (argumentAt (from + 2 * j + 1) p s)) (storeIn w b)) b
         → Setting p s from pairs w₀ b₀ w′ b′ (j + 1)
     setting-more e f = let m = commits-more next-puts e f in record { within = omega arith; commits = m; same-words = m .same-words; same-bytes = m .same-bytes }
 
   module _ (h : pairs ≤ j) where
-    all-puts : Commits (pairsAt from pairs p s) [] w₀ b₀ w b
-    all-puts = subst (λ (l : List Write). Commits (pairsAt from pairs p s) l w₀ b₀ w b) (pairs-end p s from pairs j h) (d .commits)
+    all-puts : Commits (pairsAt from (2 * pairs) p s) [] w₀ b₀ w b
+    all-puts = subst (λ (l : List Write). Commits (pairsAt from (2 * pairs) p s) l w₀ b₀ w b) (pairs-end p s (from + 2 * j) (2 * (pairs - j)) (omega arith)) (d .commits)
 
-    pub set-words : w ≡ leaveWords (commit (pairsAt from pairs p s) (storeIn w₀ b₀)) w₀
+    pub set-words : w ≡ leaveWords (commit (pairsAt from (2 * pairs) p s) (storeIn w₀ b₀)) w₀
     set-words = commits-words all-puts
 
-    pub set-bytes : b ≡ leaveBytes (commit (pairsAt from pairs p s) (storeIn w₀ b₀)) b₀
+    pub set-bytes : b ≡ leaveBytes (commit (pairsAt from (2 * pairs) p s) (storeIn w₀ b₀)) b₀
     set-bytes = commits-bytes all-puts
 
 -- THE BYTES LEFT

@@ -16,10 +16,10 @@ use Rattle.batch.specs.declared.Verdict.the-variants.{Accepted, Conflict, NoRoo
 use Rattle.batch.specs.Group.{plain, verdictAlone}
 use Rattle.server.specs.declared.Answer.{Answer}
 use Rattle.server.specs.Command.{Effect, Executed, live}
-use Rattle.server.specs.Places.{argumentsAt}
+use Rattle.server.specs.Places.{argumentsAt, tombstonesAt}
 use Rattle.server.specs.Session.{Session, committed, direct}
 use Rattle.verdict.specs.Reading.{lastReader}
-use Rattle.verdict.specs.Writes.{tombstonesAt, RoomForAll}
+use Rattle.verdict.specs.Writes.{RoomForAll}
 use Rattle.server.specs.Finish.{Served, finish, Says, StoreLeft}
 
 -- the reply buffer after a verdict: a refusal clears it

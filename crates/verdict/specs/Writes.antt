@@ -1,11 +1,9 @@
 -- The writes of a command outside MULTI: room for them, and what the verdict and the reply make of the call.
-use Prim.Native.Nat.{ℕ, _+_, _*_, _^_, _≤_, _<_}
+use Prim.Native.Nat.{ℕ, _+_, _^_, _≤_, _<_}
 use mathlib.Core.Bool.{cond}
-use mathlib.Core.List.{List, map}
+use mathlib.Core.List.{List}
 use lib.Dec.{leb, ltb}
-use lib.ListN.{length, getD}
-use Rattle.key.specs.Bytes.{Bytes, part}
-use Rattle.key.specs.Keys.{Key}
+use lib.ListN.{length}
 use Rattle.writing.specs.declared.Put.{Put}
 use Rattle.memtable.specs.declared.open.Left.{Left}
 use Rattle.memtable.specs.declared.open.Left.the-variants.{Rest, Short}
@@ -17,25 +15,6 @@ use Rattle.batch.specs.declared.Verdict.the-variants.{Accepted, Conflict, NoRoo
 use Rattle.batch.specs.Group.{verdictByte}
 use Rattle.server.specs.declared.Answer.{Answer}
 use Rattle.answer.specs.Answers.{refusal, putAnswer}
-use Rattle.server.specs.Command.{tombstone, put, pairsOf}
-use Rattle.server.specs.Places.{argumentsAt}
-
--- the argument at place k
-abbrev pub argumentIn : List ℕ → Bytes → ℕ → Key
-argumentIn places input k = part (getD places (2 * k) 0) (getD places (2 * k + 1) 0) input
-
--- the argument at place k lies in the bytes
-pub record ArgumentIn (places : List ℕ) (input : Bytes) (k : ℕ) : Type 0 where
-  pub words-in : 2 * k + 1 < length places
-  pub inside : getD places (2 * k) 0 + getD places (2 * k + 1) 0 ≤ length input
-
--- the tombstones of DEL for `count` keys
-unfoldable pub tombstonesAt : ℕ → ℕ → List ℕ → Bytes → List Write
-tombstonesAt from count places input = map tombstone (argumentsAt from count places input)
-
--- the writes of SET and MSET for `pairs` keys and values in turn
-unfoldable pub pairsAt : ℕ → ℕ → List ℕ → Bytes → List Write
-pairsAt from pairs places input = map put (pairsOf (argumentsAt from (2 * pairs) places input))
 
 -- room for these writes, and sequences
 pub record RoomForAll (w : List ℕ) (ws : List Write) : Type 0 where

@@ -8,17 +8,18 @@ ghost use Prim.Native.Nat.{_+_, _-_, _*_, _≤_};
 ghost use Rattle.memtable.specs.Versions.{commitOne, commit};
 ghost use Rattle.memtable.specs.Layout.{storeIn, leaveWords, leaveBytes};
 ghost use Rattle.memtable.specs.Rows.{Valid};
+ghost use Rattle.batch.specs.Settling.{KeyIn};
 ghost use Rattle.server.specs.Command.{tombstone};
-ghost use Rattle.server.specs.Places.{PartsIn};
-ghost use Rattle.verdict.specs.Writes.{argumentIn, ArgumentIn, tombstonesAt, pairsAt, RoomForAll};
+ghost use Rattle.server.specs.Places.{argumentAt, tombstonesAt, pairsAt, PartsIn};
+ghost use Rattle.verdict.specs.Writes.{RoomForAll};
 
 // Commits a tombstone for the key at place i.
 fn commit_tombstone(input: &[u8], places: &[u64], i: usize, words: &mut [u64], bytes: &mut [u8])
-    requires { ⌜ ArgumentIn (now places) (now input) i ⌝ }
+    requires { ⌜ KeyIn (now places) (now input) (2 * i) ⌝ }
     requires { ⌜ Valid (now words) (now bytes) ⌝ }
-    requires { ⌜ RoomForAll (now words) (tombstone (argumentIn (now places) (now input) i) ∷ []) ⌝ }
-    ensures { λ _. ⌜ now (words .exit) ≡ leaveWords (commitOne (tombstone (argumentIn (now (places .entry)) (now (input .entry)) i)) (storeIn (now (words .entry)) (now (bytes .entry)))) (now (words .entry)) ⌝ }
-    ensures { λ _. ⌜ now (bytes .exit) ≡ leaveBytes (commitOne (tombstone (argumentIn (now (places .entry)) (now (input .entry)) i)) (storeIn (now (words .entry)) (now (bytes .entry)))) (now (bytes .entry)) ⌝ }
+    requires { ⌜ RoomForAll (now words) (tombstone (argumentAt i (now places) (now input)) ∷ []) ⌝ }
+    ensures { λ _. ⌜ now (words .exit) ≡ leaveWords (commitOne (tombstone (argumentAt i (now (places .entry)) (now (input .entry)))) (storeIn (now (words .entry)) (now (bytes .entry)))) (now (words .entry)) ⌝ }
+    ensures { λ _. ⌜ now (bytes .exit) ≡ leaveBytes (commitOne (tombstone (argumentAt i (now (places .entry)) (now (input .entry)))) (storeIn (now (words .entry)) (now (bytes .entry)))) (now (bytes .entry)) ⌝ }
 {
     let name = parts::key_part(places, input, 2 * i);
     commit::commit_one(words, bytes, name, name, false);
@@ -49,12 +50,12 @@ pub fn commit_tombstones(
 
 // Commits the value at place i + 1 for the key at place i.
 fn commit_pair(input: &[u8], places: &[u64], i: usize, words: &mut [u64], bytes: &mut [u8])
-    requires { ⌜ ArgumentIn (now places) (now input) i ⌝ }
-    requires { ⌜ ArgumentIn (now places) (now input) (i + 1) ⌝ }
+    requires { ⌜ KeyIn (now places) (now input) (2 * i) ⌝ }
+    requires { ⌜ KeyIn (now places) (now input) (2 * (i + 1)) ⌝ }
     requires { ⌜ Valid (now words) (now bytes) ⌝ }
-    requires { ⌜ RoomForAll (now words) ((argumentIn (now places) (now input) i, some (argumentIn (now places) (now input) (i + 1))) ∷ []) ⌝ }
-    ensures { λ _. ⌜ now (words .exit) ≡ leaveWords (commitOne (argumentIn (now (places .entry)) (now (input .entry)) i, some (argumentIn (now (places .entry)) (now (input .entry)) (i + 1))) (storeIn (now (words .entry)) (now (bytes .entry)))) (now (words .entry)) ⌝ }
-    ensures { λ _. ⌜ now (bytes .exit) ≡ leaveBytes (commitOne (argumentIn (now (places .entry)) (now (input .entry)) i, some (argumentIn (now (places .entry)) (now (input .entry)) (i + 1))) (storeIn (now (words .entry)) (now (bytes .entry)))) (now (bytes .entry)) ⌝ }
+    requires { ⌜ RoomForAll (now words) ((argumentAt i (now places) (now input), some (argumentAt (i + 1) (now places) (now input))) ∷ []) ⌝ }
+    ensures { λ _. ⌜ now (words .exit) ≡ leaveWords (commitOne (argumentAt i (now (places .entry)) (now (input .entry)), some (argumentAt (i + 1) (now (places .entry)) (now (input .entry)))) (storeIn (now (words .entry)) (now (bytes .entry)))) (now (words .entry)) ⌝ }
+    ensures { λ _. ⌜ now (bytes .exit) ≡ leaveBytes (commitOne (argumentAt i (now (places .entry)) (now (input .entry)), some (argumentAt (i + 1) (now (places .entry)) (now (input .entry)))) (storeIn (now (words .entry)) (now (bytes .entry)))) (now (bytes .entry)) ⌝ }
 {
     let name = parts::key_part(places, input, 2 * i);
     let value = parts::key_part(places, input, 2 * (i + 1));
@@ -72,9 +73,9 @@ pub fn commit_pairs(
 )
     requires { ⌜ PartsIn (now places) (now input) (from + 2 * pairs) ⌝ }
     requires { ⌜ Valid (now words) (now bytes) ⌝ }
-    requires { ⌜ RoomForAll (now words) (pairsAt from pairs (now places) (now input)) ⌝ }
-    ensures { λ _. ⌜ now (words .exit) ≡ leaveWords (commit (pairsAt from pairs (now (places .entry)) (now (input .entry))) (storeIn (now (words .entry)) (now (bytes .entry)))) (now (words .entry)) ⌝ }
-    ensures { λ _. ⌜ now (bytes .exit) ≡ leaveBytes (commit (pairsAt from pairs (now (places .entry)) (now (input .entry))) (storeIn (now (words .entry)) (now (bytes .entry)))) (now (bytes .entry)) ⌝ }
+    requires { ⌜ RoomForAll (now words) (pairsAt from (2 * pairs) (now places) (now input)) ⌝ }
+    ensures { λ _. ⌜ now (words .exit) ≡ leaveWords (commit (pairsAt from (2 * pairs) (now (places .entry)) (now (input .entry))) (storeIn (now (words .entry)) (now (bytes .entry)))) (now (words .entry)) ⌝ }
+    ensures { λ _. ⌜ now (bytes .exit) ≡ leaveBytes (commit (pairsAt from (2 * pairs) (now (places .entry)) (now (input .entry))) (storeIn (now (words .entry)) (now (bytes .entry)))) (now (bytes .entry)) ⌝ }
 {
     let mut j = 0;
     while j < pairs {

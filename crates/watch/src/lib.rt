@@ -1,7 +1,7 @@
 // The watched keys of one session, ascending: lengths in a table of 32 words, bytes one behind the other.
 use key::Order;
-use server::watch::Grown;
-use server::watch::Spot;
+use server::watched::Grown;
+use server::watched::Spot;
 use store::merge;
 ghost use mathlib.Core.Path.{_≡_};
 ghost use mathlib.Core.List.{[], _∷_};

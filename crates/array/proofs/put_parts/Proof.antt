@@ -1,5 +1,6 @@
 -- `array::put_parts` meets its contract. Assumes nothing.
-use Rattle.array.proofs.Parts.{PartsFrom, parts-none, parts-more, parts-full, parts-full-length, parts-all, parts-length}
+use Rattle.encode.proofs.Replies.{listed-length}
+use Rattle.array.proofs.Parts.{PartsFrom, parts-none, parts-more, parts-full, parts-all}
 use Prim.Native.Nat.{_-_, _/_}
 use lib.ListN.{length}
 use borrow.Author.Needs.{needs}
@@ -25,7 +26,7 @@ enum-told-2 : tie.Need-enum-told-2 Inv-loop μ-loop
 enum-told-2 c = search needs
 
 same-length : tie.Need-same-length Inv-loop μ-loop
-same-length c = search parts-full-length
+same-length c = search listed-length
 
 returns : tie.Need-returns Inv-loop μ-loop
 returns c = search parts-full
@@ -64,7 +65,7 @@ loop-again : tie.Need-loop-again Inv-loop μ-loop
 loop-again c = search parts-more
 
 same-length-2 : tie.Need-same-length-2 Inv-loop μ-loop
-same-length-2 c = search parts-length
+same-length-2 c = search listed-length
 
 returns-2 : tie.Need-returns-2 Inv-loop μ-loop
 returns-2 c = search parts-all

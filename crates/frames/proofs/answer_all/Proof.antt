@@ -1,4 +1,6 @@
--- `frames::answer_all` meets its contract. The invariant: `Within`. Assumes nothing.
+-- `frames::answer_all` meets its contract. The invariant: `Within`, and memory that is fit to be served. Assumes nothing.
+use Rattle.calls.specs.Calls.{lentOf}
+use Rattle.console.specs.Steps.{Fit}
 use Rattle.frames.specs.Bounds.{Within}
 use borrow.Author.Needs.{needs}
 use Rattle.frames.proofs.answer_all.Statement.{statement}
@@ -6,7 +8,7 @@ use Rattle.frames.proofs.answer_all.Tie as tie
 
 abbrev Inv-loop : tie.InvT-loop
 Inv-loop part₀ line₀ page₀ counts₀ held₀ places₀ words₀ bytes₀ swords₀ sbytes₀ reply₀ at₀ turns₀ part line page counts held places words bytes swords sbytes reply at turns =
-    Within at
+    Within at × Fit (lentOf words bytes swords sbytes) reply
 
 abbrev μ-loop : tie.MeasureT-loop
 μ-loop part₀ line₀ page₀ counts₀ held₀ places₀ words₀ bytes₀ swords₀ sbytes₀ reply₀ at₀ turns₀ part line page counts held places words bytes swords sbytes reply at turns =
@@ -25,7 +27,7 @@ turns-left-requires : tie.Need-turns-left-requires Inv-loop μ-loop
 turns-left-requires c κs = search needs
 
 answer-part-requires : tie.Need-answer-part-requires Inv-loop μ-loop
-answer-part-requires c κs = search needs
+answer-part-requires c κs = (search needs, (c .before .before .before .before .before .before .before .before .before .before .before .before .before .before .before .before .before .before .before .loop .inv .0, c .before .before .before .before .before .before .before .before .before .before .before .before .before .before .before .before .before .before .before .loop .inv .1))
 
 make-room-requires : tie.Need-make-room-requires Inv-loop μ-loop
 make-room-requires c κs = search needs
@@ -34,10 +36,10 @@ loop-less : tie.Need-loop-less Inv-loop μ-loop
 loop-less c = search needs
 
 loop-again : tie.Need-loop-again Inv-loop μ-loop
-loop-again c = search needs
+loop-again c = (search needs, c .before .before .before .answer-part .ensures .0)
 
-take-byte-requires : tie.Need-take-byte-requires Inv-loop μ-loop
-take-byte-requires c κs = search needs
+answer-line-requires : tie.Need-answer-line-requires Inv-loop μ-loop
+answer-line-requires c κs = (search needs, (search needs, c .before .before .before .before .before .before .before .before .before .before .before .before .before .loop .inv .1))
 
 make-room-requires-2 : tie.Need-make-room-requires-2 Inv-loop μ-loop
 make-room-requires-2 c κs = search needs
@@ -62,7 +64,7 @@ answer-all-spec =
     make-room-requires
     loop-less
     loop-again
-    take-byte-requires
+    answer-line-requires
     make-room-requires-2
     returns
     returns-2)

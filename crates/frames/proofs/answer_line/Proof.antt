@@ -23,19 +23,19 @@ enum-known-session : tie.Need-enum-known-session
 enum-known-session c = search needs
 
 serve-turns-requires : tie.Need-serve-turns-requires
-serve-turns-requires c κs = (serve-bounds (c .before .before .before .before .before .before .before .before .before .before .before .before .begin .ensures) (c .before .before .before .before .before .before .before .before .before .before .session .given .1) .below, (serve-bounds (c .before .before .before .before .before .before .before .before .before .before .before .before .begin .ensures) (c .before .before .before .before .before .before .before .before .before .before .session .given .1) .small, (omega (arith, serve-bounds (c .before .before .before .before .before .before .before .before .before .before .before .before .begin .ensures) (c .before .before .before .before .before .before .before .before .before .before .session .given .1) .filled), search needs)))
+serve-turns-requires c κs = (serve-bounds (c .before .before .before .before .before .before .before .before .before .before .before .before .begin .ensures) (c .before .before .before .before .before .before .before .before .before .before .session .given .1) .below, (serve-bounds (c .before .before .before .before .before .before .before .before .before .before .before .before .begin .ensures) (c .before .before .before .before .before .before .before .before .before .before .session .given .1) .small, (omega (arith, serve-bounds (c .before .before .before .before .before .before .before .before .before .before .before .before .begin .ensures) (c .before .before .before .before .before .before .before .before .before .before .session .given .1) .filled), (search needs, c .before .before .before .before .before .before .before .before .before .before .before .before .before .before .before .before .before .before .before .before .before .before .pre .1 .1))))
 
 make-room-requires-2 : tie.Need-make-room-requires-2
 make-room-requires-2 c κs = search needs
 
 end-requires : tie.Need-end-requires
-end-requires c κs = (search needs, (record { session = serve-bounds (c .before .before .before .before .before .before .before .before .before .before .before .before .before .before .before .before .before .before .before .begin .ensures) (c .before .before .before .before .before .before .before .before .before .before .before .before .before .before .before .before .before .session .given .1) .below; order = c .before .before .before .before .before .before .serve-turns .ensures .from; size = serve-bounds (c .before .before .before .before .before .before .before .before .before .before .before .before .before .before .before .before .before .before .before .begin .ensures) (c .before .before .before .before .before .before .before .before .before .before .before .before .before .before .before .before .before .session .given .1) .small }, (search needs, c .before .before .before .before .before .before .serve-turns .ensures .mark)))
+end-requires c κs = (search needs, (record { session = serve-bounds (c .before .before .before .before .before .before .before .before .before .before .before .before .before .before .before .before .before .before .before .begin .ensures) (c .before .before .before .before .before .before .before .before .before .before .before .before .before .before .before .before .before .session .given .1) .below; order = c .before .before .before .before .before .before .serve-turns .ensures .1 .from; size = serve-bounds (c .before .before .before .before .before .before .before .before .before .before .before .before .before .before .before .before .before .before .before .begin .ensures) (c .before .before .before .before .before .before .before .before .before .before .before .before .before .before .before .before .before .session .given .1) .small }, (search needs, c .before .before .before .before .before .before .serve-turns .ensures .1 .mark)))
 
 returns : tie.Need-returns
-returns c = omega (arith, answered-bound (c .before .before .before .begin .ensures) (c .before .n .given .1))
+returns c = (c .before .before .before .before .before .before .before .before .before .before .before .before .before .pre .1 .1, omega (arith, answered-bound (c .before .before .before .begin .ensures) (c .before .n .given .1)))
 
 returns-2 : tie.Need-returns-2
-returns-2 c = search needs
+returns-2 c = (c .before .before .before .before .before .before .before .serve-turns .ensures .0, search needs)
 
 pub answer-line-spec : {M : Type 1} → statement M
 answer-line-spec =

@@ -1,4 +1,6 @@
--- `frames::serve_turns` meets its contract. The invariant: `InTurns`. Assumes nothing.
+-- `frames::serve_turns` meets its contract. The invariant: `InTurns`, and memory that is fit to be served. Assumes nothing.
+use Rattle.calls.specs.Calls.{lentOf}
+use Rattle.console.specs.Steps.{Fit}
 use Rattle.frames.proofs.TurnLaws.{InTurns, turnsLeft, no-mark, turn-less, turn-again, turns-over}
 use borrow.Author.Needs.{needs}
 use Rattle.frames.proofs.serve_turns.Statement.{statement}
@@ -6,7 +8,7 @@ use Rattle.frames.proofs.serve_turns.Tie as tie
 
 abbrev Inv-loop : tie.InvT-loop
 Inv-loop session to filled held page₀ places₀ words₀ bytes₀ swords₀ sbytes₀ reply₀ start end at₀ page places words bytes swords sbytes reply at =
-    InTurns session to start end at
+    InTurns session to start end at × Fit (lentOf words bytes swords sbytes) reply
 
 abbrev μ-loop : tie.MeasureT-loop
 μ-loop session to filled held page₀ places₀ words₀ bytes₀ swords₀ sbytes₀ reply₀ start end at₀ page places words bytes swords sbytes reply at =
@@ -19,7 +21,7 @@ add-end : tie.Need-add-end Inv-loop μ-loop
 add-end c = search needs
 
 loop-holds : tie.Need-loop-holds Inv-loop μ-loop
-loop-holds c = record { below = search needs; small = search needs; first = search needs; last = search needs; from = search needs; filled = search needs; mark = no-mark }
+loop-holds c = (record { below = search needs; small = search needs; first = search needs; last = search needs; from = search needs; filled = search needs; mark = no-mark }, search needs)
 
 make-room-requires : tie.Need-make-room-requires Inv-loop μ-loop
 make-room-requires c κs = search needs
@@ -34,16 +36,16 @@ part-serve-some-end : tie.Need-part-serve-some-end Inv-loop μ-loop
 part-serve-some-end c = search needs
 
 serve-some-requires : tie.Need-serve-some-requires Inv-loop μ-loop
-serve-some-requires c κs = search needs
+serve-some-requires c κs = (search needs, c .before .before .before .before .before .before .before .before .before .before .before .before .loop .inv .1)
 
 loop-less : tie.Need-loop-less Inv-loop μ-loop
-loop-less c = turn-less (c .before .before .before .before .before .before .before .before .before .before .before .before .before .before .before .args .held .now) (c .before .before .before .before .before .before .before .before .before .before .before .before .before .loop .inv) (c .before .before .before .before .before .before .before .before .before .before .before .before .before .before .before .pre .1 .1 .1) (c .serve-some .ensures) (c .before .before .before .before .before .before .before .before .before .before .before .before .loop-test .taken)
+loop-less c = turn-less (c .before .before .before .before .before .before .before .before .before .before .before .before .before .before .before .args .held .now) (c .before .before .before .before .before .before .before .before .before .before .before .before .before .loop .inv .0) (c .before .before .before .before .before .before .before .before .before .before .before .before .before .before .before .pre .1 .1 .1 .0) (c .serve-some .ensures .1) (c .before .before .before .before .before .before .before .before .before .before .before .before .loop-test .taken)
 
 loop-again : tie.Need-loop-again Inv-loop μ-loop
-loop-again c = turn-again (c .before .before .before .before .before .before .before .before .before .before .before .before .before .before .before .args .held .now) (c .before .before .before .before .before .before .before .before .before .before .before .before .before .loop .inv) (c .before .before .before .before .before .before .before .before .before .before .before .before .before .before .before .pre .1 .1 .1) (c .serve-some .ensures) (search needs)
+loop-again c = (turn-again (c .before .before .before .before .before .before .before .before .before .before .before .before .before .before .before .args .held .now) (c .before .before .before .before .before .before .before .before .before .before .before .before .before .loop .inv .0) (c .before .before .before .before .before .before .before .before .before .before .before .before .before .before .before .pre .1 .1 .1 .0) (c .serve-some .ensures .1) (search needs), c .serve-some .ensures .0)
 
 returns : tie.Need-returns Inv-loop μ-loop
-returns c = search turns-over
+returns c = (c .before .loop .inv .1, turns-over (c .before .loop .inv .0))
 
 pub serve-turns-spec : {M : Type 1} → statement M
 serve-turns-spec =

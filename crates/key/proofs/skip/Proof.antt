@@ -5,6 +5,7 @@ use native.Mathlib.Omega.{arith}
 use borrow.Author.Needs.{needs}
 use Rattle.key.specs.Blocks.{Alike}
 use Rattle.key.proofs.Keys.{alike-none}
+use Rattle.key.proofs.Blocks.{alike-block}
 use Rattle.key.proofs.skip.Statement.{statement}
 use Rattle.key.proofs.skip.Tie as tie
 
@@ -36,7 +37,7 @@ loop-less : tie.Need-loop-less Inv-loop μ-loop
 loop-less c = omega arith
 
 loop-again : tie.Need-loop-again Inv-loop μ-loop
-loop-again c = search (c .before .same-block .ensures .more)
+loop-again c = search (alike-block (c .before .same-block .ensures))
 
 returns-2 : tie.Need-returns-2 Inv-loop μ-loop
 returns-2 c = search needs

@@ -1,6 +1,7 @@
 -- `station::entry_from` meets its contract. The live key at the place that was found. Assumes nothing.
 use borrow.Author.Needs.{needs}
-use Rattle.station.proofs.StationLaws.{entry-row, entry-found, entry-absent}
+use Rattle.memtable.proofs.Walk.{found-row}
+use Rattle.station.proofs.StationLaws.{entry-found, entry-absent}
 use Rattle.station.proofs.entry_from.Statement.{statement}
 use Rattle.station.proofs.entry_from.Tie as tie
 
@@ -11,7 +12,7 @@ enum-known-found : tie.Need-enum-known-found
 enum-known-found c = search needs
 
 entry-at-requires : tie.Need-entry-at-requires
-entry-at-requires c κs = search entry-row
+entry-at-requires c κs = search found-row
 
 enum-told : tie.Need-enum-told
 enum-told c = search needs

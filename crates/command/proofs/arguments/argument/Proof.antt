@@ -1,6 +1,6 @@
 -- `command::arguments::argument` meets its contract. The part of the argument's places. Assumes nothing.
 use borrow.Author.Needs.{needs}
-use Rattle.command.proofs.ArgumentLaws.{argument-in, argument-is}
+use Rattle.server.proofs.PlaceLaws.{part-in, argument-is}
 use Rattle.command.proofs.arguments.argument.Statement.{statement}
 use Rattle.command.proofs.arguments.argument.Tie as tie
 
@@ -8,7 +8,7 @@ mul-key-part : tie.Need-mul-key-part
 mul-key-part c = search needs
 
 key-part-requires : tie.Need-key-part-requires
-key-part-requires c κs = search argument-in
+key-part-requires c κs = search part-in
 
 returns : tie.Need-returns
 returns c = search argument-is

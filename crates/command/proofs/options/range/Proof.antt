@@ -11,11 +11,11 @@ returns c = search (no-limit, arguments-count)
 argument-requires : tie.Need-argument-requires
 argument-requires c κs = search needs
 
-slice-aggregate-is-word : tie.Need-slice-aggregate-is-word
-slice-aggregate-is-word c = search needs
+slice-aggregate-same : tie.Need-slice-aggregate-same
+slice-aggregate-same c = search needs
 
-is-word-requires : tie.Need-is-word-requires
-is-word-requires c κs = search needs
+same-requires : tie.Need-same-requires
+same-requires c κs = search needs
 
 argument-requires-2 : tie.Need-argument-requires-2
 argument-requires-2 c κs = search needs
@@ -50,8 +50,8 @@ range-spec =
     (tie.spec
     returns
     argument-requires
-    slice-aggregate-is-word
-    is-word-requires
+    slice-aggregate-same
+    same-requires
     argument-requires-2
     int-arg-requires
     natural-requires

@@ -8,20 +8,20 @@ use Rattle.command.proofs.options.scan_option.Tie as tie
 argument-requires : tie.Need-argument-requires
 argument-requires c κs = search needs
 
-slice-aggregate-is-word : tie.Need-slice-aggregate-is-word
-slice-aggregate-is-word c = search needs
+slice-aggregate-same : tie.Need-slice-aggregate-same
+slice-aggregate-same c = search needs
 
-is-word-requires : tie.Need-is-word-requires
-is-word-requires c κs = search needs
+same-requires : tie.Need-same-requires
+same-requires c κs = search needs
 
 returns : tie.Need-returns
 returns c = search (match-here, arguments-count)
 
-slice-aggregate-is-word-2 : tie.Need-slice-aggregate-is-word-2
-slice-aggregate-is-word-2 c = search needs
+slice-aggregate-same-2 : tie.Need-slice-aggregate-same-2
+slice-aggregate-same-2 c = search needs
 
-is-word-requires-2 : tie.Need-is-word-requires-2
-is-word-requires-2 c κs = search needs
+same-requires-2 : tie.Need-same-requires-2
+same-requires-2 c κs = search needs
 
 add-argument : tie.Need-add-argument
 add-argument c = search needs
@@ -55,11 +55,11 @@ scan-option-spec =
     tie.close
     (tie.spec
     argument-requires
-    slice-aggregate-is-word
-    is-word-requires
+    slice-aggregate-same
+    same-requires
     returns
-    slice-aggregate-is-word-2
-    is-word-requires-2
+    slice-aggregate-same-2
+    same-requires-2
     add-argument
     argument-requires-2
     int-arg-requires

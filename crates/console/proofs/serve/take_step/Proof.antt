@@ -1,14 +1,15 @@
 -- `console::serve::take_step` meets its contract. Assumes nothing.
+use Rattle.lines.proofs.QuitLaws.{table-told}
 use Rattle.console.proofs.StepLaws.{step-taken}
 use borrow.Author.Needs.{needs}
 use Rattle.console.proofs.serve.take_step.Statement.{statement}
 use Rattle.console.proofs.serve.take_step.Tie as tie
 
-request-requires : tie.Need-request-requires
-request-requires c κs = search needs
+serve-session-requires : tie.Need-serve-session-requires
+serve-session-requires c κs = search needs
 
 step-of-requires : tie.Need-step-of-requires
-step-of-requires c κs = search needs
+step-of-requires c κs = (search needs, table-told _ (c .before .before .before .before .before .before .before .before .before .before .before .before .before .before .before .before .before .before .before .before .before .before .before .before .before .before .before .pre .1 .below) (c .before .before .before .before .before .before .before .before .before .before .before .before .before .before .before .before .before .before .before .before .before .before .before .before .before .before .before .pre .1 .fit) (c .before .before .before .before .before .before .before .before .before .before .before .before .before .before .before .before .before .before .before .before .before .before .before .before .before .before .before .pre .0) (c .before .before .before .before .before .before .before .before .before .before .before .before .before .serve-session .ensures .0) (c .before .before .before .before .before .before .before .before .before .before .before .before .before .serve-session .ensures .1))
 
 same-length : tie.Need-same-length
 same-length c = search needs
@@ -29,13 +30,13 @@ same-length-6 : tie.Need-same-length-6
 same-length-6 c = search needs
 
 returns : tie.Need-returns
-returns c = step-taken _ (c .before .before .before .before .before .before .before .before .before .before .before .before .before .before .before .before .before .before .before .before .before .before .before .before .before .before .before .before .before .before .pre) (c .before .before .before .before .before .before .before .before .before .before .before .before .before .before .before .before .request .ensures .0) (c .before .before .step-of .ensures)
+returns c = step-taken _ (c .before .before .before .before .before .before .before .before .before .before .before .before .before .before .before .before .before .before .before .before .before .before .before .before .before .before .before .before .pre .0) (c .before .before .before .before .before .before .before .before .before .before .before .before .before .before .serve-session .ensures .0) (c .step-of .ensures)
 
 pub take-step-spec : {M : Type 1} → statement M
 take-step-spec =
     tie.close
     (tie.spec
-    request-requires
+    serve-session-requires
     step-of-requires
     same-length
     same-length-2

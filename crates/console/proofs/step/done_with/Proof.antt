@@ -1,5 +1,5 @@
 -- `console::step::done_with` meets its contract. Assumes nothing.
-use Rattle.console.proofs.StepLaws.{done-all, done-closed, done-used}
+use Rattle.console.proofs.StepLaws.{done-all, done-empty, done-closed, done-used}
 use borrow.Author.Needs.{needs}
 use Rattle.console.proofs.step.done_with.Statement.{statement}
 use Rattle.console.proofs.step.done_with.Tie as tie
@@ -7,21 +7,17 @@ use Rattle.console.proofs.step.done_with.Tie as tie
 returns : tie.Need-returns
 returns c = search done-all
 
-closes-requires : tie.Need-closes-requires
-closes-requires c κs = search needs
-
-same-length : tie.Need-same-length
-same-length c = search needs
-
 returns-2 : tie.Need-returns-2
-returns-2 c = search done-closed
+returns-2 c = search done-empty
 
-same-length-2 : tie.Need-same-length-2
-same-length-2 c = search needs
+first-quits-requires : tie.Need-first-quits-requires
+first-quits-requires c κs = search needs
 
 returns-3 : tie.Need-returns-3
-returns-3 c = search done-used
+returns-3 c = search done-closed
+
+returns-4 : tie.Need-returns-4
+returns-4 c = search done-used
 
 pub done-with-spec : {M : Type 1} → statement M
-done-with-spec =
-    tie.close (tie.spec returns closes-requires same-length returns-2 same-length-2 returns-3)
+done-with-spec = tie.close (tie.spec returns returns-2 first-quits-requires returns-3 returns-4)

@@ -1,6 +1,7 @@
 -- `inside::queued::run_queued` meets its contract. Assumes nothing.
 use mir.Facts.{toZ-ofZ}
-use Rattle.inside.proofs.QueuedLaws.{pairs-counted, counter-counted, read-counted, queued-pairs, queued-tombstones, queued-counter, queued-read}
+use Rattle.command.proofs.KindLaws.{pairs-counted, counter-counted, read-counted}
+use Rattle.inside.proofs.QueuedLaws.{queued-pairs, queued-tombstones, queued-counter, queued-read}
 use Rattle.inside.proofs.CounterLaws.{lent-used}
 use borrow.Author.Needs.{needs}
 use Rattle.inside.proofs.queued.run_queued.Statement.{statement}

@@ -1,7 +1,7 @@
 -- `listing::keys::count_matches` meets its contract. The invariant: what is left to be looked at completes the count, `Looking`. Assumes nothing.
 use Rattle.listing.proofs.Matching.{Looking, looking-none, looking-more, looking-over, looking-end, one-at-most}
 use native.Mathlib.Omega.{arith}
-use Rattle.listing.proofs.Rests.{found-row, found-below}
+use Rattle.memtable.proofs.Walk.{found-row, found-below}
 use borrow.Author.Needs.{needs}
 use Rattle.listing.proofs.keys.count_matches.Statement.{statement}
 use Rattle.listing.proofs.keys.count_matches.Tie as tie

@@ -1,6 +1,7 @@
 -- `listing::keys::put_matches` meets its contract. The invariant: what is left to be written completes the array, `Writing`. The measure is what is left of the versions. Assumes nothing.
-use Rattle.listing.proofs.Matching.{Writing, writing-none, writing-match, writing-miss, writing-over, writing-end, over-length, end-length}
-use Rattle.listing.proofs.Rests.{found-row, found-below, found-from}
+use Rattle.encode.proofs.Replies.{listed-length}
+use Rattle.listing.proofs.Matching.{Writing, writing-none, writing-match, writing-miss, writing-over, writing-end}
+use Rattle.memtable.proofs.Walk.{found-row, found-below, found-from}
 use native.Mathlib.Omega.{arith}
 use Rattle.memtable.specs.Layout.{countWord}
 use Prim.Native.Nat.{_-_}
@@ -27,7 +28,7 @@ enum-told : tie.Need-enum-told Inv-loop μ-loop
 enum-told c = search needs
 
 same-length : tie.Need-same-length Inv-loop μ-loop
-same-length c = search over-length
+same-length c = search listed-length
 
 returns : tie.Need-returns Inv-loop μ-loop
 returns c = search writing-over
@@ -66,7 +67,7 @@ loop-again-2 : tie.Need-loop-again-2 Inv-loop μ-loop
 loop-again-2 c = search writing-miss
 
 same-length-2 : tie.Need-same-length-2 Inv-loop μ-loop
-same-length-2 c = search end-length
+same-length-2 c = search listed-length
 
 returns-2 : tie.Need-returns-2 Inv-loop μ-loop
 returns-2 c = search writing-end

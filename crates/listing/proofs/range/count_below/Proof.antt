@@ -1,7 +1,7 @@
 -- `listing::range::count_below` meets its contract. The invariant: every entry passed is below the end, `Passing`. Assumes nothing.
 use native.Mathlib.Omega.{arith}
 use Rattle.listing.proofs.Ranging.{Passing, passing-none, passing-more, passing-stop, passing-over, passing-end}
-use Rattle.listing.proofs.Rests.{found-row, found-below}
+use Rattle.memtable.proofs.Walk.{found-row, found-below}
 use Prim.Native.Nat.{_-_}
 use borrow.Author.Needs.{needs}
 use Rattle.listing.proofs.range.count_below.Statement.{statement}

@@ -1,8 +1,9 @@
 -- `listing::range::put_pairs` meets its contract. The invariant: what is left to be written completes the array, `Pairing`. Assumes nothing.
+use Rattle.encode.proofs.Replies.{listed-length}
 use Rattle.listing.proofs.Ranging.{count-few}
 use native.Mathlib.Omega.{arith}
-use Rattle.listing.proofs.Ranging.{Pairing, pairing-none, pairing-more, pairing-over, pairing-end, over-length, end-length}
-use Rattle.listing.proofs.Rests.{found-row, found-below}
+use Rattle.listing.proofs.Ranging.{Pairing, pairing-none, pairing-more, pairing-over, pairing-end}
+use Rattle.memtable.proofs.Walk.{found-row, found-below}
 use borrow.Author.Needs.{needs}
 use Rattle.listing.proofs.range.put_pairs.Statement.{statement}
 use Rattle.listing.proofs.range.put_pairs.Tie as tie
@@ -29,7 +30,7 @@ enum-told : tie.Need-enum-told Inv-loop μ-loop
 enum-told c = search needs
 
 same-length : tie.Need-same-length Inv-loop μ-loop
-same-length c = search over-length
+same-length c = search listed-length
 
 returns : tie.Need-returns Inv-loop μ-loop
 returns c = search pairing-over
@@ -59,7 +60,7 @@ loop-again : tie.Need-loop-again Inv-loop μ-loop
 loop-again c = pairing-more (c .before .before .before .before .before .before .before .before .before .before .before .loop .inv) (c .before .before .before .before .before .before .before .before .before .before .loop-test .taken) (c .before .before .before .before .before .before .before .before .before .next-live .ensures) (c .before .before .before .before .before .before .before .found .given .1) (c .before .before .before .before .key-of .ensures) (c .before .before .before .value-of .ensures) (c .before .before .then-pair .ensures)
 
 same-length-2 : tie.Need-same-length-2 Inv-loop μ-loop
-same-length-2 c = search end-length
+same-length-2 c = search listed-length
 
 returns-2 : tie.Need-returns-2 Inv-loop μ-loop
 returns-2 c = search pairing-end

@@ -1,7 +1,7 @@
 -- `listing::scan::skip` meets its contract. The invariant: what is left to be skipped leads to the same entries, `Skipping`. Assumes nothing.
 use native.Mathlib.Omega.{arith}
 use Rattle.listing.proofs.Scanning.{Skipping, skipping-none, skipping-more, skipping-over, skipping-end}
-use Rattle.listing.proofs.Rests.{found-below}
+use Rattle.memtable.proofs.Walk.{found-below}
 use borrow.Author.Needs.{needs}
 use Rattle.listing.proofs.scan.skip.Statement.{statement}
 use Rattle.listing.proofs.scan.skip.Tie as tie

@@ -1,5 +1,6 @@
 -- `outside::writes::run_kind` meets its contract. Assumes nothing.
-use Rattle.outside.proofs.KindRuns.{counter-counted, pairs-in, pairs-some, read-counted, runs-counter, runs-pairs, runs-read, runs-tombstones, tombstones-counted}
+use Rattle.command.proofs.KindLaws.{counter-counted, read-counted}
+use Rattle.outside.proofs.KindRuns.{pairs-in, pairs-some, tombstones-some, runs-counter, runs-pairs, runs-read, runs-tombstones}
 use borrow.Author.Needs.{needs}
 use Rattle.outside.proofs.writes.run_kind.Statement.{statement}
 use Rattle.outside.proofs.writes.run_kind.Tie as tie
@@ -17,7 +18,7 @@ enum-told-2 : tie.Need-enum-told-2
 enum-told-2 c = search needs
 
 run-tombstones-requires : tie.Need-run-tombstones-requires
-run-tombstones-requires c κs = (search needs, (search tombstones-counted, (search needs, search needs)))
+run-tombstones-requires c κs = (search needs, (search tombstones-some, (search needs, search needs)))
 
 enum-known-kind : tie.Need-enum-known-kind
 enum-known-kind c = search needs

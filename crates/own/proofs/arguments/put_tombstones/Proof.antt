@@ -1,6 +1,7 @@
 -- `own::arguments::put_tombstones` meets its contract. The invariant: the arguments before i have their tombstones, `Tombstones`. Assumes nothing.
 use Prim.Native.Nat.{_-_}
-use Rattle.own.proofs.ArgumentLaws.{part-in, Tombstones, tombstones-none, tombstone-room, tombstones-more, tombstones-all}
+use Rattle.server.proofs.PlaceLaws.{part-in}
+use Rattle.own.proofs.ArgumentLaws.{Tombstones, tombstones-none, tombstone-room, tombstones-more, tombstones-all}
 use borrow.Author.Needs.{needs}
 use Rattle.own.proofs.arguments.put_tombstones.Statement.{statement}
 use Rattle.own.proofs.arguments.put_tombstones.Tie as tie

@@ -2,7 +2,7 @@
 use Prim.Native.Nat.{_-_}
 use native.Mathlib.Omega.{arith}
 use Rattle.own.specs.Own.{readerOf}
-use Rattle.own.proofs.ArgumentLaws.{part-in}
+use Rattle.server.proofs.PlaceLaws.{part-in}
 use Rattle.reading.proofs.Arguments.{Counting, counting-none, counting-more, counting-all}
 use borrow.Author.Needs.{needs}
 use Rattle.reading.proofs.live.count_live.Statement.{statement}

@@ -1,9 +1,10 @@
 -- `reading::values::put_values` meets its contract. The invariant: the values from place i on are still to be written, `ValuesFrom`. Assumes nothing.
 use Prim.Native.Nat.{_-_}
 use native.Mathlib.Omega.{arith}
+use Rattle.encode.proofs.Replies.{listed-length}
 use Rattle.own.specs.Own.{readerOf}
-use Rattle.own.proofs.ArgumentLaws.{part-in}
-use Rattle.reading.proofs.ValueReplies.{ValuesFrom, values-none, values-more, values-all, values-length}
+use Rattle.server.proofs.PlaceLaws.{part-in}
+use Rattle.reading.proofs.ValueReplies.{ValuesFrom, values-none, values-more, values-all}
 use borrow.Author.Needs.{needs}
 use Rattle.reading.proofs.values.put_values.Statement.{statement}
 use Rattle.reading.proofs.values.put_values.Tie as tie
@@ -42,7 +43,7 @@ loop-again : tie.Need-loop-again Inv-loop μ-loop
 loop-again c = values-more (c .before .before .before .before .before .before .loop .inv) _ (omega arith) (c .before .before .before .before .key-part .ensures) (c .before .before .then-value .ensures)
 
 same-length : tie.Need-same-length Inv-loop μ-loop
-same-length c = search values-length
+same-length c = search listed-length
 
 returns : tie.Need-returns Inv-loop μ-loop
 returns c = search values-all

@@ -1,6 +1,5 @@
 -- `registry::request::request` meets its contract. Assumes nothing.
-use Rattle.registry.proofs.RequestCall.{request-below, request-words, request-bytes, request-lent, request-served, request-refused, request-table, request-unread}
-use native.Mathlib.Omega.{arith}
+use Rattle.registry.proofs.RequestCall.{request-ready, request-served, request-refused, request-unread}
 use denote.Ref.{now}
 use borrow.Author.Needs.{needs}
 use Rattle.registry.proofs.request.request.Statement.{statement}
@@ -12,41 +11,8 @@ clear-requires c κs = search needs
 request-number-requires : tie.Need-request-number-requires
 request-number-requires c κs = search needs
 
-mul-from : tie.Need-mul-from
-mul-from c = omega (arith, request-below _ _ _ _ _ (c .before .request-number .ensures) (c .if1 .taken))
-
-add-to : tie.Need-add-to
-add-to c = omega (arith, request-below _ _ _ _ _ (c .before .request-number .ensures) (c .if1 .taken))
-
-mul-start : tie.Need-mul-start
-mul-start c = omega (arith, request-below _ _ _ _ _ (c .before .request-number .ensures) (c .if1 .taken))
-
-add-end : tie.Need-add-end
-add-end c = omega (arith, request-below _ _ _ _ _ (c .before .request-number .ensures) (c .if1 .taken))
-
-mul-serve : tie.Need-mul-serve
-mul-serve c = omega (arith, request-below _ _ _ _ _ (c .before .before .before .before .request-number .ensures) (c .before .before .before .if1 .taken))
-
-sub-serve : tie.Need-sub-serve
-sub-serve c = search needs
-
-part-serve-start : tie.Need-part-serve-start
-part-serve-start c = search needs
-
-part-serve-end : tie.Need-part-serve-end
-part-serve-end c = request-words _ _ _ _ _ (c .before .before .before .before .request-number .ensures) (c .before .before .before .if1 .taken)
-
-sub-serve-2 : tie.Need-sub-serve-2
-sub-serve-2 c = search needs
-
-part-serve-start-2 : tie.Need-part-serve-start-2
-part-serve-start-2 c = search needs
-
-part-serve-end-2 : tie.Need-part-serve-end-2
-part-serve-end-2 c = request-bytes _ _ _ _ _ (c .before .before .before .before .before .request-number .ensures) (c .before .before .before .before .if1 .taken)
-
-serve-requires : tie.Need-serve-requires
-serve-requires c κs = request-lent _ _ _ _ _ (c .before .before .before .before .before .before .before .request-number .ensures) (now (c .before .before .before .before .before .before .before .before .before .before .before .before .before .before .before .before .before .before .before .before .before .before .before .args .out)) (c .before .before .before .before .before .before .before .before .before .before .before .before .before .before .clear .ensures) (c .before .before .before .before .before .before .if1 .taken)
+serve-session-requires : tie.Need-serve-session-requires
+serve-session-requires c κs = request-ready _ _ _ _ _ (c .before .before .before .before .before .before .before .request-number .ensures) (now (c .before .before .before .before .before .before .before .before .before .before .before .before .before .before .before .before .before .before .before .before .before .before .before .args .out)) (c .before .before .before .before .before .before .before .before .before .before .before .before .before .before .clear .ensures) (c .before .before .before .before .before .before .if1 .taken)
 
 same-length : tie.Need-same-length
 same-length c = search needs
@@ -67,7 +33,7 @@ same-length-6 : tie.Need-same-length-6
 same-length-6 c = search needs
 
 returns : tie.Need-returns
-returns c = (request-served _ _ _ _ _ (c .before .before .before .before .before .before .before .before .before .before .before .before .before .before .before .before .before .before .before .before .request-number .ensures) _ (c .before .before .before .before .before .before .before .before .before .before .before .before .before .before .before .before .before .before .before .before .before .before .before .before .before .before .before .clear .ensures) _ _ (c .before .before .before .before .before .before .before .before .before .before .before .before .before .before .before .before .before .before .before .if1 .taken) (c .before .before .before .before .before .before .before .before .before .before .before .before .serve .ensures .0), request-table _ _ _ _ _ (c .before .before .before .before .before .before .before .before .before .before .before .before .before .before .before .before .before .before .before .before .request-number .ensures) _ _ (c .before .before .before .before .before .before .before .before .before .before .before .before .before .before .before .before .before .before .before .if1 .taken) (c .before .before .before .before .before .before .before .before .before .before .before .before .serve .ensures .1))
+returns c = (request-served _ _ _ _ _ (c .before .before .before .before .before .before .before .before .before .before .before .before .before .before .before .before .before .before .before .before .request-number .ensures) _ (c .before .before .before .before .before .before .before .before .before .before .before .before .before .before .before .before .before .before .before .before .before .before .before .before .before .before .before .clear .ensures) (c .before .before .before .before .before .before .before .before .before .before .before .before .serve-session .ensures .0), c .before .before .before .before .before .before .before .before .before .before .before .before .serve-session .ensures .1)
 
 refusal-requires : tie.Need-refusal-requires
 refusal-requires c κs = search needs
@@ -96,18 +62,7 @@ request-spec =
     (tie.spec
     clear-requires
     request-number-requires
-    mul-from
-    add-to
-    mul-start
-    add-end
-    mul-serve
-    sub-serve
-    part-serve-start
-    part-serve-end
-    sub-serve-2
-    part-serve-start-2
-    part-serve-end-2
-    serve-requires
+    serve-session-requires
     same-length
     same-length-2
     same-length-3

@@ -1,7 +1,7 @@
 -- `session::watching::watch_arguments` meets its contract. By what adding the keys gave. Assumes nothing.
 use Prim.Native.Nat.{_-_}
 use mathlib.Core.Path.{_≡_}
-use Rattle.server.specs.declared.watch.Grown.the-variants as grown
+use Rattle.server.specs.declared.watched.Grown.the-variants as grown
 use Rattle.server.specs.Places.{argumentsAt}
 use Rattle.session.proofs.WatchAnswers.{watch-refused, watch-kept}
 use borrow.Author.Needs.{needs}
