@@ -25,7 +25,7 @@ from generate import array_bytes, frame_lines
 LINES = 100000
 ROUNDS = 5
 REQUESTS = 400000
-FEWER = {"DBSIZE": 20000, "SCAN COUNT 10": 50000, "RANGE LIMIT 10": 50000, "MGET of 10": 50000, "MULTI, GET, GET, EXEC": 100000}
+FEWER = {"SCAN COUNT 10": 100000, "RANGE LIMIT 10": 100000, "MGET of 10": 100000}  # what costs the Rust more is sent less often
 SIZES = (16, 128, 1024)
 SETS_IN_A_ROW = 40  # fresh processes, each of which fills a store with single writes
 
@@ -135,8 +135,8 @@ def filling(n):
     return lines
 
 
-def count_of(kind):
-    return FEWER.get(kind, REQUESTS)
+def count_of(kind, n):
+    return REQUESTS * 16 // n if kind == "DBSIZE" else FEWER.get(kind, REQUESTS)
 
 
 def requests_at(n, kind):
@@ -153,9 +153,9 @@ def requests_at(n, kind):
         "DBSIZE": lambda: [b"DBSIZE"],
     }
     if kind in one:
-        return [line(0, *one[kind]()) for _ in range(count_of(kind))]
+        return [line(0, *one[kind]()) for _ in range(count_of(kind, n))]
     steps = lambda: [[b"MULTI"], [b"GET", some()], [b"GET", some()], [b"EXEC"]]
-    return [line(0, *words) for _ in range(count_of(kind) // 4) for words in steps()]
+    return [line(0, *words) for _ in range(count_of(kind, n) // 4) for words in steps()]
 
 
 KINDS = ["PING", "GET", "GET of no key", "MGET of 10", "SCAN COUNT 10", "RANGE LIMIT 10", "DBSIZE", "MULTI, GET, GET, EXEC"]
@@ -251,7 +251,7 @@ def cost_table(programs, folder, figures):
         for n in SIZES:
             given = Input(folder, filling(n) + requests_at(n, kind))
             same_output(programs, given, f"{kind} at {n}")
-            rust, ours = ((u - base[n][i][0]) / count_of(kind) * 1e6 for i, (u, _) in enumerate(best(programs, given)))
+            rust, ours = ((u - base[n][i][0]) / count_of(kind, n) * 1e6 for i, (u, _) in enumerate(best(programs, given)))
             cells.append(f"{rust:.2f} / {ours:.2f} / {ratio(rust, ours)}")
             kept.append([n, rust, ours])
         row(kind, *cells)
