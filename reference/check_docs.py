@@ -67,9 +67,9 @@ def faults_of(document):
         antt = re.fullmatch(r"([a-z_]+)([:!])([A-Z][A-Za-z0-9]*(?:\.[^\s,]+)?)", word)
         item = re.fullmatch(r"([a-z_]+)((?:::[A-Za-z_0-9]+)+)", word)
         edit = re.fullmatch(r"([a-z_]+)/([a-z_0-9]+)", word)
-        if antt and antt[1] in CRATES and not cited_antt(antt[1], antt[2], antt[3]):
+        if antt and antt[1] != "crate" and not cited_antt(antt[1], antt[2], antt[3]):
             yield word
-        if item and item[1] in CRATES and word != "resp::parse" and not cited_item(word.split("::")):
+        if item and item[1] != "crate" and word != "resp::parse" and not cited_item(word.split("::")):
             yield word
         if edit and edit[1] in CRATES and not cited_edit(word):
             yield word

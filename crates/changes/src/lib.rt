@@ -10,10 +10,7 @@ pub fn in_multi(words: &[u64]) -> bool
     requires { ⌜ length (now words) ≡ 613 ⌝ }
     ensures { λ r. ⌜ r ≡ yes? (getD (now (words .entry)) 0 0) ⌝ }
 {
-    if words[0] == 0 {
-        return false;
-    }
-    true
+    words[0] != 0
 }
 
 // Is the session marked failed?
@@ -21,10 +18,7 @@ pub fn failed(words: &[u64]) -> bool
     requires { ⌜ length (now words) ≡ 613 ⌝ }
     ensures { λ r. ⌜ r ≡ yes? (getD (now (words .entry)) 1 0) ⌝ }
 {
-    if words[1] == 0 {
-        return false;
-    }
-    true
+    words[1] != 0
 }
 
 // The snapshot, meaningful while a key is watched.

@@ -12,16 +12,16 @@ use Rattle.writing.specs.declared.Put.{Put}
 use Rattle.writing.specs.declared.Put.the-variants.{Wrote, Full}
 use Rattle.writing.specs.Puts.{Puts, Adds}
 use Rattle.writing.proofs.Puts.{Written, nothing, stored, full, done, puts-nothing, then-puts, full-longer, same-text}
-use Rattle.resp.specs.declared.utf8.Piece.{Piece}
-use Rattle.resp.specs.declared.utf8.Piece.the-variants.{Whole, Broken}
+use Rattle.utf8.specs.declared.Piece.{Piece}
+use Rattle.utf8.specs.declared.Piece.the-variants.{Whole, Broken}
 use Rattle.resp.specs.Utf8.{between, replacement, lossyFrom, lossy}
 use Rattle.resp.specs.declared.Letters.{Letters}
 use Rattle.resp.specs.declared.Letters.the-variants.{AsSent, Capitals, Small}
 use Rattle.resp.specs.Letters.{upper, lower, letterAs, shownAs}
 use Rattle.resp.specs.Reply.{clean}
-use Rattle.resp.specs.Pieces.{pieceOf}
+use Rattle.utf8.specs.Pieces.{pieceOf}
 use Rattle.writing.proofs.Lent.{rest}
-use Rattle.resp.proofs.Pieces.{size, shown, lossy-at, inside-at}
+use Rattle.utf8.proofs.Pieces.{size, shown, lossy-at, inside-at}
 
 -- ONE BYTE
 module _ (b : ℕ) where

@@ -1,7 +1,6 @@
 // Text of simple and error replies: CR and LF become spaces, and what is not UTF-8 becomes U+FFFD.
 use resp::Letters;
-use resp::utf8;
-use resp::utf8::Piece;
+use utf8::Piece;
 use writing::Put;
 ghost use mathlib.Core.Path.{_≡_};
 ghost use mathlib.Core.List.{map};

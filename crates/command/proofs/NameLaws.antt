@@ -25,7 +25,7 @@ use Rattle.server.specs.declared.Name.{Name}
 use Rattle.server.specs.declared.Name.the-variants.{Get, Set, Del, Exists, Mget, Mset, Incr, Incrby, Decr, Ping, Echo, Dbsize, Keys, Scan, Range}
 use Rattle.server.specs.declared.Fixed.the-variants.{NotInteger, SetOptions, Pong}
 use Rattle.server.specs.Names.{Args, Row, rows, unknownRow, rowOf, nameWord, arguments, arity, countRight, notAbove}
-use Rattle.server.specs.Rows.{rowAt, Looked}
+use Rattle.names.specs.Rows.{rowAt, Looked}
 use Rattle.server.specs.Command.{GET, SET, COUNT, KEYS, runs, lists, fixed, argument, countBy, unknownCommand, executedAs, executedOf}
 use Rattle.server.specs.Errors.{fixedReply}
 use Rattle.command.specs.declared.Command.the-variants as command

@@ -7,7 +7,6 @@ use crate::amounts::Amount;
 use crate::arguments;
 use number::integer;
 use server::Fixed;
-use server::names;
 ghost use Prim.Native.Nat.{_+_, _≤_, _<_};
 ghost use Rattle.server.specs.declared.Name.the-variants.{Scan, Range};
 ghost use Rattle.server.specs.Places.{argumentsAt, PartsIn};

@@ -18,13 +18,14 @@ use Rattle.calls.specs.Calls.{Lent, lentOf, valid, RequestPromise}
 use Rattle.calls.specs.Frames.{closes, hex}
 use Rattle.lines.specs.declared.pieces.Mark.{Mark}
 use Rattle.lines.specs.declared.pieces.Mark.the-variants.{NoMark, Number}
+use Rattle.console.specs.declared.serve.Progress.{Progress}
 use Rattle.console.specs.declared.step.Step.{Step}
 use Rattle.console.specs.declared.step.Step.the-variants.{Refused, Waits, Used}
 use Rattle.lines.specs.Pieces.{MarkFits}
 use Rattle.lines.specs.Quit.{quits, firstSpan, Drops}
 use Rattle.lines.specs.Served.{FrameServed, orSome}
-use Rattle.console.specs.Steps.{doneWith, stepOf, repliedAfter, Fit, StepPromise, Stepping, Reached, SomeServed, Serves}
-use Rattle.console.specs.Page.{Added, ReplyFits}
+use Rattle.console.specs.Steps.{doneWith, stepOf, repliedAfter, Fit, StepPromise, Stepping, Reached, SomeServed, Serves, StepFits, After, NextServed}
+use Rattle.console.specs.Page.{Added, ReplyFits, Moved}
 use Rattle.writing.proofs.Lent.{rest}
 use Rattle.lines.proofs.LineLaws.{lent-is}
 use Rattle.lines.proofs.ServedLaws.{serving-start, serving-end, serving-last, serving-more, serving-number, serving-waits, serving-used, told-some, told-none, reply-short, left-fit, cleared-again, cleared-number, cleared-waits}
@@ -144,17 +145,6 @@ stepping-start i held from₀ replied₀ filled₀ page l x f = record {
 }
 
 module _ {i from filled : ℕ} {held page page′ : Bytes} {from₀ filled₀ : ℕ} {replied₀ : Bool} {l l′ : Lent} {replied : Bool} (x : Stepping i held from₀ replied₀ filled₀ page l from replied filled page′ l′) where
-  -- the page is full
-  pub stepping-full : filled₀ + 65536 ≤ length page → length page′ - filled < 65536 → SomeServed i held from₀ replied₀ filled₀ page l (record { from = from; replied = replied; filled = filled; full = true; mark = NoMark }) page′ l′
-  unfolding Reached MarkFits
-  stepping-full free full = record {
-    within = x .within;
-    inside = x .inside;
-    size = x .size;
-    mark = tt;
-    reached = record { ahead = x .ahead (omega (arith, x .size, x .inside)); served = x .served };
-  }
-
   over : (from′ : ℕ) (mark : Mark) (l″ : Lent) → MarkFits mark → from′ ≤ length held → FrameServed i (drop from held) l′ replied (take filled page′) mark (drop from′ held) l″ replied (take filled page′) → SomeServed i held from₀ replied₀ filled₀ page l (record { from = from′; replied = replied; filled = filled; full = false; mark = mark }) page′ l″
   unfolding Reached
   over from′ mark l″ fits h f = record {
@@ -176,44 +166,38 @@ module _ {i from filled : ℕ} {held page page′ : Bytes} {from₀ filled₀ : 
       over from NoMark l′ tt (x .within) (rw none (serving-end l′ replied (take filled page′) ok h))
 
   -- one more step
-  module _ {buffer buffer′ : Bytes} {l″ : Lent} {r : Step} (below : i < 16) (more : from < length held) (room : length buffer ≡ 32768) (p : StepPromise i (rest from held) buffer l′ r buffer′ l″) where
-    at-drop : StepPromise i (drop from held) buffer l′ r buffer′ l″
-    at-drop = rw (lent-is from held) at p
-
+  module _ {buffer buffer′ : Bytes} {l″ : Lent} {r : Step} (below : i < 16) (more : from < length held) (room : length buffer ≡ 32768) (p : StepPromise i (drop from held) buffer l′ r buffer′ l″) where
     some-bytes : 0 < length (drop from held)
     some-bytes = omega (arith, length-drop from held)
 
-    pub stepping-refused : {n : ℕ} → r ≡ Refused n → Fits w64 n → SomeServed i held from₀ replied₀ filled₀ page l (record { from = length held; replied = replied; filled = filled; full = false; mark = Number n }) page′ l″
-    unfolding MarkFits
+    pub stepping-refused : {n : ℕ} → r ≡ Refused n → MarkFits (Number n) → SomeServed i held from₀ replied₀ filled₀ page l (record { from = length held; replied = replied; filled = filled; full = false; mark = Number n }) page′ l″
     stepping-refused {n} e fits =
-        let q = at-drop in
-        let t = refused-told (drop from held) (q .answer) n (sym e ∙ q .is) in
-        over (length held) (Number n) l″ (omega (arith, fits .fits)) (omega arith)
-        (rw (drop-length held) (rw (t .0) at (serving-number below ok some-bytes room (q .call) replied (take filled page′) (t .1))))
+        let t = refused-told (drop from held) (p .answer) n (sym e ∙ p .is) in
+        over (length held) (Number n) l″ fits (omega arith)
+        (rw (drop-length held) (rw (t .0) at (serving-number below ok some-bytes room (p .call) replied (take filled page′) (t .1))))
 
     pub stepping-waits : r ≡ Waits → SomeServed i held from₀ replied₀ filled₀ page l (record { from = from; replied = replied; filled = filled; full = false; mark = NoMark }) page′ l″
     unfolding MarkFits
     stepping-waits e =
-        let q = at-drop in
-        let t = waits-told (drop from held) (q .answer) (sym e ∙ q .is) in
-        over from NoMark l″ tt (x .within) (serving-waits below ok some-bytes room (q .call) replied (take filled page′) (t .0) (t .1))
+        let t = waits-told (drop from held) (p .answer) (sym e ∙ p .is) in
+        over from NoMark l″ tt (x .within) (serving-waits below ok some-bytes room (p .call) replied (take filled page′) (t .0) (t .1))
 
     -- what is lent afterwards is valid, and the reply buffer is cleared
     fit-with : {b : Bytes} → b ≡ replicate (length buffer) 0 → Fit l″ b
-    fit-with e = record { fit = left-fit below ok some-bytes room (at-drop .call); cleared = zeros (length buffer) e }
+    fit-with e = record { fit = left-fit below ok some-bytes room (p .call); cleared = zeros (length buffer) e }
 
     pub fit-refused : {n : ℕ} → r ≡ Refused n → Fit l″ buffer′
-    fit-refused {n} e = fit-with (cleared-number below ok some-bytes room (at-drop .call) (refused-told (drop from held) (at-drop .answer) n (sym e ∙ at-drop .is) .1))
+    fit-refused {n} e = fit-with (cleared-number below ok some-bytes room (p .call) (refused-told (drop from held) (p .answer) n (sym e ∙ p .is) .1))
 
     pub fit-waits : r ≡ Waits → Fit l″ buffer′
-    fit-waits e = fit-with (cleared-waits below ok some-bytes room (at-drop .call) (waits-told (drop from held) (at-drop .answer) (sym e ∙ at-drop .is) .1))
+    fit-waits e = fit-with (cleared-waits below ok some-bytes room (p .call) (waits-told (drop from held) (p .answer) (sym e ∙ p .is) .1))
 
     module _ {k n : ℕ} (e : r ≡ Used k n) where
-      used : UsedTold (drop from held) (at-drop .answer) k n
-      used = used-told (drop from held) (at-drop .answer) k n (sym e ∙ at-drop .is)
+      used : UsedTold (drop from held) (p .answer) k n
+      used = used-told (drop from held) (p .answer) k n (sym e ∙ p .is)
 
-      bounds : (0 < doneWith (drop from held) (at-drop .answer .used)) × (doneWith (drop from held) (at-drop .answer .used) ≤ length (drop from held))
-      bounds = done-within (drop from held) (at-drop .answer .used) (used .some-used) some-bytes
+      bounds : (0 < doneWith (drop from held) (p .answer .used)) × (doneWith (drop from held) (p .answer .used) ≤ length (drop from held))
+      bounds = done-within (drop from held) (p .answer .used) (used .some-used) some-bytes
 
       pub step-forward : 0 < k
       step-forward = omega (arith, bounds .0, used .is)
@@ -226,13 +210,13 @@ module _ {i from filled : ℕ} {held page page′ : Bytes} {from₀ filled₀ : 
       reply-fits free same = record { there = omega (arith, reply-within); room = omega (arith, reply-within) }
         where
           reply-within : n ≤ length buffer
-          reply-within = omega (arith, used .reply, reply-short (at-drop .call) same)
+          reply-within = omega (arith, used .reply, reply-short (p .call) same)
 
       pub fit-used : {b : Bytes} → length buffer′ ≡ length buffer → b ≡ replicate n 0 ++ drop n buffer′ → Fit l″ b
-      fit-used same c = fit-with (cleared-again below ok some-bytes room (at-drop .call) same (rw (used .reply) c))
+      fit-used same c = fit-with (cleared-again below ok some-bytes room (p .call) same (rw (used .reply) c))
 
-      left-is : drop (from + k) held ≡ cond (closes (drop from held) (readRequest 1024 (drop from held))) [] (drop (at-drop .answer .used) (drop from held))
-      left-is = sym (drop-drop k from held) ∙ ap (λ (j : ℕ). drop j (drop from held)) (sym (used .is)) ∙ left-behind (drop from held) (at-drop .answer .used)
+      left-is : drop (from + k) held ≡ cond (closes (drop from held) (readRequest 1024 (drop from held))) [] (drop (p .answer .used) (drop from held))
+      left-is = sym (drop-drop k from held) ∙ ap (λ (j : ℕ). drop j (drop from held)) (sym (used .is)) ∙ left-behind (drop from held) (p .answer .used)
 
       pub stepping-used : {b : Bool} {filled′ : ℕ} {page″ : Bytes} → Added (hex (take n buffer′)) filled page′ filled′ page″ → b ≡ repliedAfter replied n → Stepping i held from₀ replied₀ filled₀ page l (from + k) b filled′ page″ l″
       unfolding repliedAfter
@@ -243,17 +227,17 @@ module _ {i from filled : ℕ} {held page page′ : Bytes} {from₀ filled₀ : 
         inside = omega (arith, a .within, x .size);
         size = a .size ∙ x .size;
         served =
-            serving-more (x .served) (serving-used below ok some-bytes room (at-drop .call) (used .number) (used .some-used) left-is replied (take filled page′)
+            serving-more (x .served) (serving-used below ok some-bytes room (p .call) (used .number) (used .some-used) left-is replied (take filled page′)
             (told ∙ after-is (decLe 1 n)) (a .front ∙ ap (λ (m : ℕ). take filled page′ ++ hex (take m buffer′)) (sym (used .reply))));
       }
         where
-          after-is : Dec (1 ≤ n) → repliedAfter replied n ≡ orSome replied (take (at-drop .answer .reply) buffer′)
+          after-is : Dec (1 ≤ n) → repliedAfter replied n ≡ orSome replied (take (p .answer .reply) buffer′)
           after-is (yes h) =
               let some-reply : 0 < n = omega arith in
-              rw (lt-ltb 0 n some-reply) (told-some below ok some-bytes room (at-drop .call) (used .number) (used .some-used) left-is replied (omega (arith, used .reply)))
+              rw (lt-ltb 0 n some-reply) (told-some below ok some-bytes room (p .call) (used .number) (used .some-used) left-is replied (omega (arith, used .reply)))
           after-is (no h) =
               let none : n ≤ 0 = omega arith in
-              rw (le-ltb 0 n none) (told-none below ok some-bytes room (at-drop .call) (used .number) (used .some-used) left-is replied (omega (arith, used .reply)))
+              rw (le-ltb 0 n none) (told-none below ok some-bytes room (p .call) (used .number) (used .some-used) left-is replied (omega (arith, used .reply)))
 
 -- WHETHER A REPLY BYTE WAS WRITTEN
 pub replied-more : (replied : Bool) {n : ℕ} → 0 < n → true ≡ repliedAfter replied n
@@ -264,8 +248,69 @@ pub replied-same : (replied : Bool) {n : ℕ} → n ≤ 0 → replied ≡ replie
 unfolding repliedAfter
 replied-same replied {n} h = rw (le-ltb 0 n h)
 
--- a request call, and the step that its answer makes
-pub step-taken : {i : ℕ} {s buffer buffer′ : Bytes} {l l′ : Lent} (n : ℕ) {a : Answer} {r : Step} → n ≡ 2048 → RequestPromise i s (n / 2) buffer l a buffer′ l′ → r ≡ stepOf s a → StepPromise i s buffer l r buffer′ l′
-step-taken {i} {s} {buffer} {buffer′} {l} {l′} n {a} places p e =
+-- a request call on the bytes that are left, and the step that its answer makes
+pub step-taken : (from : ℕ) (held : Bytes) {i : ℕ} {buffer buffer′ : Bytes} {l l′ : Lent} (n : ℕ) {a : Answer} {r : Step} → n ≡ 2048 → RequestPromise i (rest from held) (n / 2) buffer l a buffer′ l′ → r ≡ stepOf (rest from held) a
+    → StepPromise i (drop from held) buffer l r buffer′ l′
+step-taken from held n {a} places p e =
     let half : n / 2 ≡ 1024 = omega arith in
-    record { answer = a; call = rw half at p; is = e }
+    record { answer = a; call = rw (lent-is from held, half) at p; is = rw (lent-is from held) at e }
+
+-- WHAT A STEP LEAVES
+module _ (size : ℕ) (at : Progress) (reply page : Bytes) {step : Step} where
+  pub after-refused : {n : ℕ} → step ≡ Refused n → Fits w64 n → After step size at reply page (record { from = size; replied = at .replied; filled = at .filled; full = false; mark = Number n }) reply page
+  unfolding After MarkFits
+  after-refused e fits = rw e (record { is = refl; fits = omega (arith, fits .fits); same-reply = refl; same-page = refl })
+
+  pub after-waits : step ≡ Waits → After step size at reply page (record { from = at .from; replied = at .replied; filled = at .filled; full = false; mark = NoMark }) reply page
+  unfolding After MarkFits
+  after-waits e = rw e (record { is = refl; fits = tt; same-reply = refl; same-page = refl })
+
+  pub after-used : {k n filled : ℕ} {b : Bool} {reply′ page′ : Bytes} → step ≡ Used k n → b ≡ repliedAfter (at .replied) n → Moved n reply (at .filled) page filled reply′ page′ → After step size at reply page (record { from = at .from + k; replied = b; filled = filled; full = ltb (at .from + k) size; mark = NoMark }) reply′ page′
+  unfolding After
+  after-used {k} {n} e told m = rw e (record { is = rw told; moved = m })
+
+-- ONE REQUEST
+module _ (at : Progress) {i : ℕ} {held page buffer : Bytes} {l : Lent} {table : List ℕ} (x : Serves i held (at .from) (at .filled) page table buffer) (f : Fit l buffer) (more : at .from < length held) where
+  here : Stepping i held (at .from) (at .replied) (at .filled) page l (at .from) (at .replied) (at .filled) page l
+  here = stepping-start i held (at .from) (at .replied) (at .filled) page l x f
+
+  pub step-fits : {step : Step} {reply : Bytes} {l′ : Lent} → length reply ≡ length buffer → StepPromise i (drop (at .from) held) buffer l step reply l′ → StepFits (length held) at step reply page
+  step-fits same p = record {
+    small = x .size;
+    inside = λ k n e. step-inside here (x .session) more (x .room) p e;
+    fits = λ k n e. reply-fits here (x .session) more (x .room) p e (omega (arith, x .free)) same;
+  }
+
+  module _ {r : Progress} {buffer′ page′ : Bytes} {l′ : Lent} (y : NextServed i held at buffer page l r buffer′ page′ l′) where
+    pub next-fit : Fit l′ buffer′
+    unfolding After
+    next-fit = go (y .step) refl (y .after)
+      where
+        go : (s : Step) → y .step ≡ s → After s (length held) at (y .reply) page r buffer′ page′ → Fit l′ buffer′
+        go (Refused n) e a = rw (a .same-reply) (fit-refused here (x .session) more (x .room) (y .call) e)
+        go Waits e a = rw (a .same-reply) (fit-waits here (x .session) more (x .room) (y .call) e)
+        go (Used k n) e a = fit-used here (x .session) more (x .room) (y .call) e (y .size) (a .moved .cleared)
+
+    pub next-left : r .full ≡ true → r .from < length held
+    unfolding After
+    next-left t = go (y .step) (y .after)
+      where
+        go : (s : Step) → After s (length held) at (y .reply) page r buffer′ page′ → r .from < length held
+        go (Refused n) a = let z : _≡_ {A = ℕ} 0 1 = cc (rw (a .is) at t) in absurd (omega arith)
+        go Waits a = let z : _≡_ {A = ℕ} 0 1 = cc (rw (a .is) at t) in absurd (omega arith)
+        go (Used k n) a = rw (a .is) (ltb-true (at .from + k) (length held) (rw (a .is) at t))
+
+    pub next-served : SomeServed i held (at .from) (at .replied) (at .filled) page l r page′ l′
+    unfolding After Reached MarkFits
+    next-served = go (y .step) refl (y .after)
+      where
+        by-left : (k n : ℕ) {filled′ : ℕ} (b : Bool) → ltb (at .from + k) (length held) ≡ b → 0 < k → Stepping i held (at .from) (at .replied) (at .filled) page l (at .from + k) (repliedAfter (at .replied) n) filled′ page′ l′ → SomeServed i held (at .from) (at .replied) (at .filled) page l (record { from = at .from + k; replied = repliedAfter (at .replied) n; filled = filled′; full = b; mark = NoMark }) page′ l′
+        by-left k n true e h z = record { within = z .within; inside = z .inside; size = z .size; mark = tt; reached = record { ahead = omega arith; served = z .served } }
+        by-left k n false e h z = stepping-end z (x .session) (ltb-false (at .from + k) (length held) e)
+
+        go : (s : Step) → y .step ≡ s → After s (length held) at (y .reply) page r buffer′ page′ → SomeServed i held (at .from) (at .replied) (at .filled) page l r page′ l′
+        go (Refused n) e a = rw (a .is, a .same-page) (stepping-refused here (x .session) more (x .room) (y .call) e (a .fits))
+        go Waits e a = rw (a .is, a .same-page) (stepping-waits here (x .session) more (x .room) (y .call) e)
+        go (Used k n) e a =
+            rw (a .is) (by-left k n (ltb (at .from + k) (length held)) refl (step-forward here (x .session) more (x .room) (y .call) e)
+            (stepping-used here (x .session) more (x .room) (y .call) e (a .moved .added) refl))

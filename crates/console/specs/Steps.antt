@@ -1,5 +1,5 @@
 -- One request of a frame, by what its call answered.
-use Prim.Native.Nat.{ℕ, _+_, _≤_, _<_}
+use Prim.Native.Nat.{ℕ, _+_, _-_, _≤_, _<_}
 use mathlib.Core.Bool.{Bool, true, false, cond}
 use mathlib.Core.List.{List}
 use mathlib.Core.Path.{_≡_}
@@ -10,11 +10,14 @@ use Rattle.resp.specs.Request.{readRequest}
 use Rattle.server.specs.declared.Answer.{Answer}
 use Rattle.calls.specs.Calls.{Lent, valid, RequestPromise}
 use Rattle.calls.specs.Frames.{closes}
+use Rattle.lines.specs.declared.pieces.Mark.{Mark}
+use Rattle.lines.specs.declared.pieces.Mark.the-variants.{NoMark, Number}
 use Rattle.lines.specs.Pieces.{MarkFits}
 use Rattle.lines.specs.Served.{Serving, FrameServed}
 use Rattle.console.specs.declared.serve.Progress.{Progress}
 use Rattle.console.specs.declared.step.Step.{Step}
 use Rattle.console.specs.declared.step.Step.the-variants.{Refused, Waits, Used}
+use Rattle.console.specs.Page.{ReplyFits, Moved}
 
 -- the bytes that are done with: all of them where the request drops the rest
 unfoldable pub doneWith : Bytes → ℕ → ℕ
@@ -29,7 +32,7 @@ pub record Fit (l : Lent) (buffer : Bytes) : Type 0 where
   pub fit : valid l ≡ true
   pub cleared : buffer ≡ replicate (length buffer) 0
 
--- THE CONTRACT of a step: a request call with 1,024 places, and the step that its answer makes
+-- a request call with 1,024 places, and the step that its answer makes
 pub record StepPromise (i : ℕ) (s buffer : Bytes) (l : Lent) (r : Step) (buffer′ : Bytes) (l′ : Lent) : Type 0 where
   pub answer : Answer
   pub call : RequestPromise i s 1024 buffer l answer buffer′ l′
@@ -78,3 +81,39 @@ pub record Serves (i : ℕ) (held : Bytes) (from₀ filled₀ : ℕ) (page : Byt
   pub free : filled₀ + 65536 ≤ length page
   pub places : length table ≡ 2048
   pub room : length buffer ≡ 32768
+
+-- a step is to be taken in a frame of `size` bytes: the bytes that it is done with are there, and its reply fits behind the bytes in use
+pub record StepFits (size : ℕ) (at : Progress) (step : Step) (reply page : Bytes) : Type 0 where
+  pub small : size ≤ 8192
+  pub inside : (k n : ℕ) → step ≡ Used k n → at .from + k ≤ size
+  pub fits : (k n : ℕ) → step ≡ Used k n → ReplyFits n reply (at .filled) page
+
+-- the frame is over with a mark, and nothing is put
+pub record Stopped (from : ℕ) (mark : Mark) (at : Progress) (reply page : Bytes) (r : Progress) (reply′ page′ : Bytes) : Type 0 where
+  pub is : r ≡ record { from = from; replied = at .replied; filled = at .filled; full = false; mark = mark }
+  pub fits : MarkFits mark
+  pub same-reply : reply′ ≡ reply
+  pub same-page : page′ ≡ page
+
+-- k bytes are done with, and a reply of n bytes is moved to the page; the frame is not over where bytes are left
+pub record Advanced (k n size : ℕ) (at : Progress) (reply page : Bytes) (r : Progress) (reply′ page′ : Bytes) : Type 0 where
+  pub is : r ≡ record { from = at .from + k; replied = repliedAfter (at .replied) n; filled = r .filled; full = ltb (at .from + k) size; mark = NoMark }
+  pub moved : Moved n reply (at .filled) page (r .filled) reply′ page′
+
+-- what a step leaves
+unfoldable pub After : Step → ℕ → Progress → Bytes → Bytes → Progress → Bytes → Bytes → Type 0
+After (Refused n) size at reply page r reply′ page′ = Stopped size (Number n) at reply page r reply′ page′
+After Waits size at reply page r reply′ page′ = Stopped (at .from) NoMark at reply page r reply′ page′
+After (Used k n) size at reply page r reply′ page′ = Advanced k n size at reply page r reply′ page′
+
+-- THE CONTRACT of one request: its call, on the bytes that are left, and what the step leaves
+pub record NextServed (i : ℕ) (held : Bytes) (at : Progress) (buffer page : Bytes) (l : Lent) (r : Progress) (buffer′ page′ : Bytes) (l′ : Lent) : Type 0 where
+  pub step : Step
+  pub reply : Bytes
+  pub size : length reply ≡ length buffer
+  pub call : StepPromise i (drop (at .from) held) buffer l step reply l′
+  pub after : After step (length held) at reply page r buffer′ page′
+
+-- a frame that is not over goes on where one more reply fits the page
+unfoldable pub goesOn : Progress → ℕ → Bool
+goesOn at size = cond (at .full) (leb 65536 (size - at .filled)) false

@@ -4,13 +4,13 @@ use crate::step::Step;
 use lines::pieces;
 use lines::pieces::Mark;
 use writing::Put;
+ghost use Prim.Native.Nat.{_≤_, _<_};
 ghost use mathlib.Core.Path.{_≡_};
 ghost use lib.ListN.{length, take};
 ghost use Rattle.calls.specs.Calls.{lentOf};
 ghost use Rattle.calls.specs.Frames.{hex};
-ghost use Rattle.serving.specs.Serving.{ReadyAmong};
 ghost use Rattle.console.specs.Page.{Added, ReplyFits, Moved};
-ghost use Rattle.console.specs.Steps.{Fit, StepPromise, Serves, SomeServed};
+ghost use Rattle.console.specs.Steps.{Fit, Serves, StepFits, After, NextServed, goesOn, SomeServed};
 
 // A page takes one more reply where so much of it is free: the hexadecimal of 32,768 bytes.
 const REPLY_TEXT: usize = 65536;
@@ -23,34 +23,6 @@ pub struct Progress {
     pub filled: usize,
     pub full: bool,
     pub mark: Mark,
-}
-
-// One request on the bytes that are left.
-fn take_step(
-    session: usize,
-    input: &[u8],
-    places: &mut [u64],
-    words: &mut [u64],
-    bytes: &mut [u8],
-    swords: &mut [u64],
-    sbytes: &mut [u8],
-    reply: &mut [u8],
-) -> Step
-    requires { ⌜ length (now places) ≡ 2048 ⌝ }
-    requires { ⌜ ReadyAmong session (now words) (now bytes) (now swords) (now sbytes) (now reply) ⌝ }
-    ensures { λ r. ⌜ StepPromise session (now (input .entry)) (now (reply .entry)) (lentOf (now (words .entry)) (now (bytes .entry)) (now (swords .entry)) (now (sbytes .entry))) r (now (reply .exit)) (lentOf (now (words .exit)) (now (bytes .exit)) (now (swords .exit)) (now (sbytes .exit))) ⌝ }
-{
-    let answer = serving::serve_session(
-        session,
-        input,
-        places,
-        words,
-        bytes,
-        swords,
-        sbytes,
-        reply,
-    );
-    step::step_of(input, places, answer)
 }
 
 // Puts the hexadecimal of the first `count` bytes of a reply behind the `filled` bytes of the page.
@@ -74,6 +46,84 @@ fn move_reply(page: &mut [u8], filled: usize, reply: &mut [u8], count: usize) ->
     at
 }
 
+// What a step leaves of a frame of `size` bytes: a reply is moved to the page. `full` says that the frame is not over.
+fn after_step(at: Progress, size: usize, step: Step, page: &mut [u8], reply: &mut [u8]) -> Progress
+    requires { ⌜ StepFits size at step (now reply) (now page) ⌝ }
+    ensures { λ r. ⌜ After step size at (now (reply .entry)) (now (page .entry)) r (now (reply .exit)) (now (page .exit)) ⌝ }
+{
+    match step {
+        Step::Refused(n) => Progress {
+            from: size,
+            replied: at.replied,
+            filled: at.filled,
+            full: false,
+            mark: Mark::Number(n),
+        },
+        Step::Waits => Progress {
+            from: at.from,
+            replied: at.replied,
+            filled: at.filled,
+            full: false,
+            mark: Mark::NoMark,
+        },
+        Step::Used(used, count) => {
+            let from = at.from + used;
+            Progress {
+                from,
+                replied: step::replied_after(at.replied, count),
+                filled: move_reply(page, at.filled, reply, count),
+                full: from < size,
+                mark: Mark::NoMark,
+            }
+        }
+    }
+}
+
+// Serves the request at `at.from`; `full` says that the frame is not over.
+fn serve_next(
+    session: usize,
+    held: &[u8],
+    at: Progress,
+    page: &mut [u8],
+    places: &mut [u64],
+    words: &mut [u64],
+    bytes: &mut [u8],
+    swords: &mut [u64],
+    sbytes: &mut [u8],
+    reply: &mut [u8],
+) -> Progress
+    requires { ⌜ Serves session (now held) (at .from) (at .filled) (now page) (now places) (now reply) ⌝ }
+    requires { ⌜ Fit (lentOf (now words) (now bytes) (now swords) (now sbytes)) (now reply) ⌝ }
+    requires { ⌜ at .from < length (now held) ⌝ }
+    ensures { λ r. ⌜ NextServed session (now (held .entry)) at (now (reply .entry)) (now (page .entry)) (lentOf (now (words .entry)) (now (bytes .entry)) (now (swords .entry)) (now (sbytes .entry))) r (now (reply .exit)) (now (page .exit)) (lentOf (now (words .exit)) (now (bytes .exit)) (now (swords .exit)) (now (sbytes .exit))) ⌝ }
+{
+    let from = at.from;
+    let input = &held[from..];
+    let answer = serving::serve_session(
+        session,
+        input,
+        places,
+        words,
+        bytes,
+        swords,
+        sbytes,
+        reply,
+    );
+    let step = step::step_of(input, places, answer);
+    after_step(at, held.len(), step, page, reply)
+}
+
+// Whether the frame goes on: it is not over, and one more reply fits a page of `size` bytes.
+fn goes_on(at: Progress, size: usize) -> bool
+    requires { ⌜ at .filled ≤ size ⌝ }
+    ensures { λ r. ⌜ r ≡ goesOn at size ⌝ }
+{
+    if at.full {
+        return REPLY_TEXT <= size - at.filled;
+    }
+    false
+}
+
 // Serves the requests of a frame from `begun.from` on until it is over or the page is full.
 pub fn serve_some(
     session: usize,
@@ -92,57 +142,27 @@ pub fn serve_some(
     ensures { λ _. ⌜ Fit (lentOf (now (words .exit)) (now (bytes .exit)) (now (swords .exit)) (now (sbytes .exit))) (now (reply .exit)) ⌝ }
     ensures { λ r. ⌜ SomeServed session (now (held .entry)) (begun .from) (begun .replied) (begun .filled) (now (page .entry)) (lentOf (now (words .entry)) (now (bytes .entry)) (now (swords .entry)) (now (sbytes .entry))) r (now (page .exit)) (lentOf (now (words .exit)) (now (bytes .exit)) (now (swords .exit)) (now (sbytes .exit))) ⌝ }
 {
-    let mut from = begun.from;
-    let mut replied = begun.replied;
-    let mut filled = begun.filled;
-    while from < held.len() {
-        if page.len() - filled < REPLY_TEXT {
-            return Progress {
-                from,
-                replied,
-                filled,
-                full: true,
-                mark: Mark::NoMark,
-            };
-        }
-        match take_step(
+    let size = page.len();
+    let mut at = Progress {
+        from: begun.from,
+        replied: begun.replied,
+        filled: begun.filled,
+        full: begun.from < held.len(),
+        mark: Mark::NoMark,
+    };
+    while goes_on(at, size) {
+        at = serve_next(
             session,
-            &held[from..],
+            held,
+            at,
+            page,
             places,
             words,
             bytes,
             swords,
             sbytes,
             reply,
-        ) {
-            Step::Refused(n) => {
-                return Progress {
-                    from: held.len(),
-                    replied,
-                    filled,
-                    full: false,
-                    mark: Mark::Number(n),
-                };
-            }
-            Step::Waits => return Progress {
-                from,
-                replied,
-                filled,
-                full: false,
-                mark: Mark::NoMark,
-            },
-            Step::Used(used, count) => {
-                filled = move_reply(page, filled, reply, count);
-                replied = step::replied_after(replied, count);
-                from += used;
-            }
-        }
+        );
     }
-    Progress {
-        from,
-        replied,
-        filled,
-        full: false,
-        mark: Mark::NoMark,
-    }
+    at
 }

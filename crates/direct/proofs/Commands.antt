@@ -22,7 +22,7 @@ use Rattle.resp.specs.Reply.{Reply, Integer, ok, crlf, encode}
 use Rattle.memtable.specs.declared.open.Left.{Left}
 use Rattle.memtable.specs.Table.{Write}
 use Rattle.memtable.specs.Versions.{bytesOf, writesSize, commitOne, commit}
-use Rattle.memtable.specs.Layout.{lastWord, usedWord, mostBytesWord, storeIn, leaveWords, leaveBytes}
+use Rattle.memtable.specs.Layout.{usedWord, mostBytesWord, storeIn, leaveWords, leaveBytes}
 use Rattle.memtable.specs.Rows.{Valid, RoomForOne, valueIf, bytesLeft}
 use Rattle.batch.specs.declared.Verdict.{Verdict}
 use Rattle.server.specs.declared.Answer.{Answer}
@@ -37,11 +37,10 @@ use Rattle.server.specs.Errors.{fixedReply}
 use Rattle.server.specs.Places.{argumentsAt, lengthsAt, tombstonesAt, pairsAt, PartsIn}
 use Rattle.server.proofs.PlaceLaws.{arguments-count, tombstones-count, tombstones-size, pairs-count, pairs-size}
 use Rattle.verdict.specs.Writes.{RoomForAll, HeaderIn, verdictLeft, verdictAnswer}
-use Rattle.answer.specs.Answers.{putAnswer}
 use Rattle.verdict.specs.Served.{bufferAfter, Runs, Admitted, deletion, counted, integerText, AdmittedText, RunsText}
 use Rattle.verdict.proofs.Writes.{pair-room, pair-words, pair-bytes}
 use Rattle.answer.proofs.Finish.{Cleared}
-use Rattle.verdict.proofs.Served.{verdict-is, accepted-room, runs-written, runs-refused, runs-quiet, answer-accepted}
+use Rattle.verdict.proofs.Served.{verdict-is, accepted-room, runs-written, runs-refused, answer-accepted}
 
 pub header-in : {w b : List ℕ} → Valid w b → HeaderIn w
 header-in v = record { header-in = omega (arith, v .words-hold); count-fits = v .count-fits; used-fits = v .used-fits }
@@ -83,20 +82,23 @@ admits-pairs p s pairs used w b puts free-is left-is v-is r-is o-is valid q c =
     (left-is ∙ (λ z. bytesLeft (free-is z) ((ap (λ (m : ℕ). total (lengthsAt 1 m p)) n ∙ sym (pairs-size q 1 pairs (omega arith))) z)))
     v-is r-is o-is valid c
 
--- DEL
+-- EXISTS and DEL
 pub live-fits : (w : List ℕ) (b : Bytes) (p : List ℕ) (s : Bytes) (count : ℕ) {n : ℕ} → LiveIs w b (argumentsAt 1 (count - 1) p s) n → PartsIn p s count → length p < 2 ^ 64 → n < 2 ^ 63
 live-fits w b p s count l q h = omega (arith, l .few, arguments-count 1 (count - 1) p s, q .table)
 
-pub admits-tombstones : (p : List ℕ) (s : Bytes) (count used : ℕ) (w b : List ℕ) {out mid out′ : Bytes} {put : Put} {n : ℕ} {free : ℕ} {left : Left} {v : Verdict} {r : Answer}
-    → LiveIs w b (argumentsAt 1 (count - 1) p s) n
-    → Puts (encode (Integer (pos n))) out put mid → free ≡ mostBytesWord w - usedWord w
+pub live-put : (w b : List ℕ) (ks : List Key) {n : ℕ} {out out′ : Bytes} {put : Put} → LiveIs w b ks n → Puts (encode (Integer (pos n))) out put out′
+    → Puts (encode (Integer (pos (live (lastReader w b) ks)))) out put out′
+live-put w b ks l puts = same-text (ap (λ (m : ℕ). encode (Integer (pos m))) (sym (l .is))) puts
+
+pub admits-tombstones : (p : List ℕ) (s : Bytes) (count used : ℕ) (w b : List ℕ) {out mid out′ : Bytes} {put : Put} {free : ℕ} {left : Left} {v : Verdict} {r : Answer}
+    → Puts (encode (Integer (pos (live (lastReader w b) (argumentsAt 1 (count - 1) p s))))) out put mid → free ≡ mostBytesWord w - usedWord w
     → left ≡ bytesLeft free (total (lengthsAt 1 (count - 1) p)) → v ≡ verdictLeft w (count - 1) left
     → r ≡ verdictAnswer v put used → out′ ≡ bufferAfter v mid → Valid w b → 1 ≤ count → PartsIn p s count → out ≡ replicate (length out) 0
     → Admitted (deletion count p s w b) used out w b r out′
 unfolding deletion
-admits-tombstones p s count used w b {out} {mid} {out′} {put} l puts free-is left-is v-is r-is o-is valid h q c =
+admits-tombstones p s count used w b puts free-is left-is v-is r-is o-is valid h q c =
     admits (Integer (pos (live (lastReader w b) (argumentsAt 1 (count - 1) p s))), tombstonesAt 1 (count - 1) p s) w b used (count - 1)
-    (same-text (ap (λ (m : ℕ). encode (Integer (pos m))) (sym (l .is))) puts)
+    puts
     (sym (tombstones-count 1 (count - 1) p s))
     (left-is ∙ (λ z. bytesLeft (free-is z) (sym (tombstones-size q 1 (count - 1) (omega arith)) z)))
     v-is r-is o-is valid c
@@ -166,12 +168,6 @@ module _ {z n : ℤ} {entry exit : Bytes} {put : Put} (z-is : z ≡ n) (small : 
 pub number-runs : (k : Key) (n : ℤ) (text : Bytes) {used : ℕ} {out : Bytes} {w b : List ℕ} {r : Answer} {out′ w′ b′ : List ℕ} → text ≡ decimal n
     → RunsText k text used out w b r out′ w′ b′ → Runs (counted k n) used out w b r out′ w′ b′
 number-runs k n text e a = a .is n e
-
--- EXISTS
-pub runs-live : (w b : List ℕ) (ks : List Key) (used : ℕ) {out out′ : Bytes} {put : Put} {n : ℕ} {r : Answer} → LiveIs w b ks n → Puts (encode (Integer (pos n))) out put out′
-    → r ≡ putAnswer put used → Valid w b → lastWord w < 2 ^ 64 → out ≡ replicate (length out) 0 → Runs (Integer (pos (live (lastReader w b) ks)), []) used out w b r out′ w b
-runs-live w b ks used l puts r-is valid h c =
-    runs-quiet (Integer (pos (live (lastReader w b) ks))) w b used valid h c (same-text (ap (λ (m : ℕ). encode (Integer (pos m))) (sym (l .is))) puts) r-is
 
 -- COUNTERS by the number read and the checked sum
 module _ (k : Key) (by : ℤ) (w b : List ℕ) (used : ℕ) {out : Bytes} {h : Number} (h-is : h ≡ held (lastReader w b k)) {r : Answer} {out′ : Bytes} where

@@ -1,3 +1,57 @@
 // Commands outside MULTI: each answers at once, and its writes commit by themselves.
-pub mod replies;
-pub mod run;
+mod kinds;
+mod listings;
+mod replies;
+mod run;
+
+use command::Executed;
+use server::Answer;
+ghost use mathlib.Core.Path.{_≡_};
+ghost use Prim.Native.Nat.{_≤_, _<_, _^_};
+ghost use lib.ListN.{length, replicate};
+ghost use Rattle.memtable.specs.Layout.{lastWord};
+ghost use Rattle.memtable.specs.Rows.{Valid};
+ghost use Rattle.server.specs.Command.{executedOf};
+ghost use Rattle.server.specs.Places.{argumentsAt, PartsIn};
+ghost use Rattle.verdict.specs.Served.{Answers};
+
+// Runs the command of these arguments.
+pub fn run_command(
+    input: &[u8],
+    places: &[u64],
+    count: usize,
+    used: usize,
+    words: &mut [u64],
+    bytes: &mut [u8],
+    out: &mut [u8],
+) -> Answer
+    requires { ⌜ PartsIn (now places) (now input) count ⌝ }
+    requires { ⌜ 1 ≤ count ⌝ }
+    requires { ⌜ Valid (now words) (now bytes) ⌝ }
+    requires { ⌜ lastWord (now words) < 2 ^ 64 ⌝ }
+    requires { ⌜ now out ≡ replicate (length (now out)) 0 ⌝ }
+    ensures { λ r. ⌜ Answers (executedOf (argumentsAt 0 count (now (places .entry)) (now (input .entry)))) used (now (out .entry)) (now (words .entry)) (now (bytes .entry)) r (now (out .exit)) (now (words .exit)) (now (bytes .exit)) ⌝ }
+{
+    match command::executed_of(input, places, count) {
+        Executed::Runs(command) => kinds::run_kind(
+            command::kinds::kind_of(command),
+            input,
+            places,
+            count,
+            used,
+            words,
+            bytes,
+            out,
+        ),
+        Executed::Lists(listing) => listings::answer_listing(
+            listing,
+            input,
+            places,
+            count,
+            used,
+            words,
+            bytes,
+            out,
+        ),
+    }
+}

@@ -82,8 +82,7 @@ fn admit_tombstones(
     requires { ⌜ now out ≡ replicate (length (now out)) 0 ⌝ }
     ensures { λ r. ⌜ Admitted (deletion count (now (places .entry)) (now (input .entry)) (now (words .entry)) (now (bytes .entry))) used (now (out .entry)) (now (words .entry)) (now (bytes .entry)) r (now (out .exit)) ⌝ }
 {
-    let live = read::count_live(input, places, count, words, bytes);
-    let put = read::put_count(out, live);
+    let put = replies::put_live(input, places, count, words, bytes, out);
     let free = room::free_bytes(words);
     let left = room::lengths_left(places, 1, count, free);
     let verdict = room::verdict_for(words, count - 1, left);
@@ -164,38 +163,35 @@ fn run_text(
     answer
 }
 
-// A counter that is put to `number`; `text` is working memory.
+// A counter that is put to `number`.
 fn run_number(
     name: &[u8],
     number: i64,
-    text: &mut [u8],
     used: usize,
     words: &mut [u64],
     bytes: &mut [u8],
     out: &mut [u8],
 ) -> Answer
-    requires { ⌜ length (now text) ≡ 20 ⌝ }
     requires { ⌜ Valid (now words) (now bytes) ⌝ }
     requires { ⌜ now out ≡ replicate (length (now out)) 0 ⌝ }
     ensures { λ r. ⌜ Runs (counted (now (name .entry)) number) used (now (out .entry)) (now (words .entry)) (now (bytes .entry)) r (now (out .exit)) (now (words .exit)) (now (bytes .exit)) ⌝ }
 {
-    let Put::Wrote(len) = decimal::put_decimal(text, number) else {
+    let mut text = [0u8; 20];
+    let Put::Wrote(len) = decimal::put_decimal(&mut text, number) else {
         return answer::refusal(3);
     };
     run_text(name, &text[..len], used, words, bytes, out)
 }
 
-// INCR, DECR and INCRBY by `by`: the number read and the checked sum, or the error. `text` is working memory.
+// INCR, DECR and INCRBY by `by`: the number read and the checked sum, or the error.
 pub fn run_counter(
     name: &[u8],
     by: i64,
-    text: &mut [u8],
     used: usize,
     words: &mut [u64],
     bytes: &mut [u8],
     out: &mut [u8],
 ) -> Answer
-    requires { ⌜ length (now text) ≡ 20 ⌝ }
     requires { ⌜ Valid (now words) (now bytes) ⌝ }
     requires { ⌜ lastWord (now words) < 2 ^ 64 ⌝ }
     requires { ⌜ now out ≡ replicate (length (now out)) 0 ⌝ }
@@ -207,5 +203,5 @@ pub fn run_counter(
     let Number::Int(sum) = integer::checked_sum(number, by) else {
         return replies::answer_fixed(Fixed::Overflow, used, words, bytes, out);
     };
-    run_number(name, sum, text, used, words, bytes, out)
+    run_number(name, sum, used, words, bytes, out)
 }

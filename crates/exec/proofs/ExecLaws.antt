@@ -32,10 +32,10 @@ use Rattle.server.proofs.SessionLaws.{ranBy, execute-failed}
 use Rattle.sessions.proofs.Kept.{held-by-tests, keys-held, queue-count}
 use Rattle.own.specs.Own.{ownWrites}
 use Rattle.inside.specs.declared.Walked.{Walked}
-use Rattle.inside.specs.Progress.{Progress, begun, advanceAll}
-use Rattle.inside.specs.Walks.{commandsIn, QueueRan}
-use Rattle.exec.specs.Leaving.{LaidOut, ReadsAt, Leaves, execServed, Closes, concluded, Concludes, NilCloses, ExecReady}
-use Rattle.inside.proofs.Progress.{ended, hasMoved, execute-conflict, execute-no-room, execute-no-sequence, execute-accepted, replies-are}
+use Rattle.conclude.specs.Leaving.{Leaves, Closes, concluded, Concludes, NilCloses}
+use Rattle.exec.specs.Progress.{Progress, begun, advanceAll, commandsIn, QueueRan}
+use Rattle.exec.specs.Execution.{LaidOut, ReadsAt, execServed, ExecReady}
+use Rattle.exec.proofs.Progress.{ended, hasMoved, execute-conflict, execute-no-room, execute-no-sequence, execute-accepted, replies-are}
 
 -- THE SEQUENCE
 module _ (s w : List ℕ) {c : ℕ} (c-is : c ≡ getD s 3 0) where

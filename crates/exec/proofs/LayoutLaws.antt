@@ -17,12 +17,12 @@ use Rattle.server.specs.Lent.{capped}
 use Rattle.server.specs.Held.{Held}
 use Rattle.server.specs.Places.{argumentsAt, PartsIn, placesOf, Expandable}
 use Rattle.server.proofs.SplitLaws.{split-whole}
-use Rattle.sessions.proofs.Validity.{capped-low}
+use Rattle.sessions.proofs.Sums.{capped-low}
 use Rattle.sessions.proofs.Kept.{queue-counts}
 use Rattle.sessions.proofs.Expanding.{expanded}
-use Rattle.inside.specs.Walks.{Queued, commandsIn}
-use Rattle.exec.specs.Leaving.{LaidOut}
-use Rattle.inside.proofs.WalkLaws.{grown-arguments}
+use Rattle.exec.specs.Progress.{Queued, commandsIn}
+use Rattle.exec.specs.Execution.{LaidOut}
+use Rattle.exec.proofs.WalkLaws.{grown-arguments}
 
 -- each place ends before the end of them all
 place-inside : (start : ℕ) (ns rest : List ℕ) (k : ℕ) → k < length ns

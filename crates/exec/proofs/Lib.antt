@@ -1,5 +1,8 @@
 -- The laws of this crate.
-pub mod ClosingLaws
+pub mod AnswerLaws
 pub mod ExecLaws
 pub mod LayoutLaws
+pub mod Progress
+pub mod QueuedLaws
+pub mod WalkLaws
 pub mod WatchedKeys

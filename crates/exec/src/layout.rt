@@ -7,7 +7,7 @@ ghost use lib.ListN.{length, getD};
 ghost use Rattle.key.specs.Bytes.{part};
 ghost use Rattle.server.specs.Sessions.{allPositive};
 ghost use Rattle.server.specs.Held.{Held};
-ghost use Rattle.exec.specs.Leaving.{LaidOut};
+ghost use Rattle.exec.specs.Execution.{LaidOut};
 
 // Writes the places of the queued arguments and the session's bytes up to their end, and answers where that is.
 pub fn lay_out(

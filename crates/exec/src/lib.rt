@@ -1,5 +1,6 @@
-// EXEC: the queued commands run, the verdict, and the commit.
-pub mod closing;
+// EXEC: the mark, the watched keys, and the queued commands run.
+pub mod answers;
 pub mod layout;
+pub mod queued;
 pub mod transaction;
 pub mod watched;

@@ -1,8 +1,7 @@
 // EXEC of one session.
-use crate::closing;
 use crate::layout;
+use crate::queued;
 use crate::watched;
-use inside::queued;
 use server::Answer;
 use server::Fixed;
 ghost use mathlib.Core.Path.{_≡_};
@@ -13,7 +12,8 @@ ghost use Rattle.memtable.specs.Layout.{lastWord};
 ghost use Rattle.memtable.specs.Rows.{Valid};
 ghost use Rattle.server.specs.Lent.{OneSession};
 ghost use Rattle.server.specs.Sessions.{sessionOk};
-ghost use Rattle.exec.specs.Leaving.{ReadsAt, Leaves, execServed, ExecReady};
+ghost use Rattle.conclude.specs.Leaving.{Leaves};
+ghost use Rattle.exec.specs.Execution.{ReadsAt, execServed, ExecReady};
 
 // The sequence at which EXEC reads: the snapshot, or the last sequence if nothing is watched.
 fn read_sequence(session_words: &[u64], words: &[u64]) -> u64
@@ -60,7 +60,7 @@ fn exec_in(
     );
     let end = at.used;
     let put = at.put;
-    closing::conclude(
+    conclude::conclude(
         session_words,
         at.conflict,
         own,
@@ -121,11 +121,11 @@ pub fn exec(
 {
     if changes::failed(session_words) {
         let put = errors::put_fixed(out, Fixed::ExecAbort);
-        return closing::close(session_words, put, used);
+        return conclude::close(session_words, put, used);
     }
     let seq = read_sequence(session_words, words);
     if watched::watched_moved(session_words, session_bytes, words, bytes, seq) {
-        return closing::close_nil(session_words, out, used);
+        return conclude::close_nil(session_words, out, used);
     }
     exec_queue(session_words, session_bytes, words, bytes, seq, out, used)
 }

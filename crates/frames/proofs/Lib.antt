@@ -1,3 +1,4 @@
 -- The laws of this crate.
+pub mod InputLaws
 pub mod OpenLaws
 pub mod TurnLaws

@@ -1,5 +1,6 @@
 -- An opened store beside zeroed sessions, and a zeroed reply buffer, are fit to be served. Assumes nothing.
 use Prim.Native.Nat.{ℕ, _*_, _≤_}
+use native.Mathlib.Omega.{arith}
 use mathlib.Core.Path.{_≡_, sym, ap}
 use mathlib.Core.List.{List}
 use lib.ListN.{replicate, length-replicate}
@@ -8,9 +9,13 @@ use Rattle.calls.specs.Calls.{lentOf, OpenPromise}
 use Rattle.calls.proofs.MadeLaws.{made}
 use Rattle.console.specs.Steps.{Fit}
 
-pub opened-fit : (n m k : ℕ) {last versions size r : ℕ} {w w′ : List ℕ} {b b′ : Bytes} → 16 * 613 ≤ n → 16 * 10240 ≤ m → r ≡ 0 → OpenPromise last versions size w b r w′ b′
+fit-beside : (n m k : ℕ) {last versions size r : ℕ} {w w′ : List ℕ} {b b′ : Bytes} → 16 * 613 ≤ n → 16 * 10240 ≤ m → r ≡ 0 → OpenPromise last versions size w b r w′ b′
     → Fit (lentOf w′ b′ (replicate n 0) (replicate m 0)) (replicate k 0)
-opened-fit n m k {last} {versions} {size} {r} {w} {w′} {b} {b′} words bytes e p = record {
+fit-beside n m k {last} {versions} {size} {r} {w} {w′} {b} {b′} words bytes e p = record {
   fit = made .opens last versions size w b w′ b′ n m words bytes (rw e at p) .fit;
   cleared = ap (λ (j : ℕ). replicate j 0) (sym (length-replicate k 0));
 }
+
+pub opened-fit : {last versions size r : ℕ} {w w′ : List ℕ} {b b′ : Bytes} → r ≡ 0 → OpenPromise last versions size w b r w′ b′
+    → Fit (lentOf w′ b′ (replicate 9808 0) (replicate 163840 0)) (replicate 32768 0)
+opened-fit = fit-beside 9808 163840 32768 (omega arith) (omega arith)

@@ -64,8 +64,8 @@ module _ {session to start end free : ℕ} {at r : Progress} {page page′ : Byt
     mark = p .mark;
   }
 
-pub turns-over : {session to start end : ℕ} {at : Progress} → InTurns session to start end at → Served to at
-turns-over x = record { from = x .from; filled = x .filled; mark = x .mark }
+pub turns-over : {session to start end room : ℕ} {at : Progress} → InTurns session to start end at → room + 64 ≤ 131072 → Served to (record { from = at .from; replied = at .replied; filled = room; full = at .full; mark = at .mark })
+turns-over x h = record { from = x .from; filled = h; mark = x .mark }
 
 -- a frame to serve
 pub record ServeBounds (i to n size : ℕ) : Type 0 where

@@ -6,13 +6,16 @@ use console::serve::Progress;
 use libc::STDIN_FILENO;
 use libc::STDOUT_FILENO;
 use lines::pieces::Mark;
+use lines::rest;
 use registry::open;
-ghost use Prim.Native.Nat.{_+_, _<_, _≤_};
+ghost use Prim.Native.Nat.{_+_, _-_, _<_, _≤_, min};
 ghost use mathlib.Core.Path.{_≡_};
-ghost use lib.ListN.{length};
+ghost use lib.ListN.{drop, length, take};
 ghost use Rattle.calls.specs.Calls.{lentOf};
+ghost use Rattle.lines.specs.Rest.{moved};
 ghost use Rattle.console.specs.Steps.{Fit};
-ghost use Rattle.frames.specs.Bounds.{Served, Within};
+ghost use Rattle.frames.specs.Bounds.{Served};
+ghost use Rattle.frames.specs.Input.{Within, inputLeft, lineLength};
 
 // The longest line of the form has 8,195 bytes: of a longer one 8,196 are kept at most, and it is answered `?`.
 const LINE: usize = 8196;
@@ -31,26 +34,30 @@ const SESSION_WORDS: usize = 9808;
 
 const SESSION_BYTES: usize = 163840;
 
-// How many bytes of the line at hand are kept, and how many of the page are in use.
+// The line at hand in the part, the bytes of the part that are read, those of the page in use, and how many reads are left.
 struct Cursor {
-    len: usize,
+    from: usize,
+    end: usize,
+    got: usize,
     filled: usize,
+    reads: u64,
 }
 
 // Writes the page out where fewer than `need` of its bytes are free.
-fn make_room(page: &[u8], filled: usize, need: usize) -> usize
-    requires { ⌜ filled ≤ length (now page) ⌝ }
-    requires { ⌜ need ≤ length (now page) ⌝ }
-    ensures { λ r. do ⌜ r + need ≤ (← ⟦page.len()⟧ .entry) ⌝ }
+fn make_room(page: &[u8; PAGE], filled: usize, need: usize) -> usize
+    requires { ⌜ filled ≤ 131072 ⌝ }
+    requires { ⌜ need ≤ 131072 ⌝ }
+    ensures { λ r. ⌜ r + need ≤ 131072 ⌝ }
 {
-    if need <= page.len() - filled {
+    if need <= PAGE - filled {
         return filled;
     }
-    io::write_all(STDOUT_FILENO, &page[..filled]);
+    let whole = &page[..];
+    io::write_all(STDOUT_FILENO, &whole[..filled]);
     0
 }
 
-// Serves the requests of a frame, whose bytes end at `to` in the session's part; the page is written out between turns.
+// Serves the requests of a frame, whose bytes end at `to` in the session's part; the page is written out between turns, and has room for the line's end.
 fn serve_turns(
     session: usize,
     to: usize,
@@ -82,18 +89,11 @@ fn serve_turns(
         mark: Mark::NoMark,
     };
     while at.full {
-        let free = make_room(page, at.filled, 65536);
-        let begun = Progress {
-            from: at.from,
-            replied: at.replied,
-            filled: free,
-            full: false,
-            mark: Mark::NoMark,
-        };
+        at.filled = make_room(page, at.filled, 65536);
         at = serve::serve_some(
             session,
             &held[start..end],
-            begun,
+            at,
             page,
             places,
             words,
@@ -103,13 +103,13 @@ fn serve_turns(
             reply,
         );
     }
+    at.filled = make_room(page, at.filled, 64);
     at
 }
 
-// Answers the line of the first `len` bytes.
+// Answers a line.
 fn answer_line(
     line: &[u8],
-    len: usize,
     filled: usize,
     page: &mut [u8; PAGE],
     counts: &mut [u64; 16],
@@ -121,14 +121,12 @@ fn answer_line(
     sbytes: &mut [u8; SESSION_BYTES],
     reply: &mut [u8; 32768],
 ) -> usize
-    requires { ⌜ len ≤ length (now line) ⌝ }
-    requires { ⌜ filled ≤ 131072 ⌝ }
+    requires { ⌜ filled + 64 ≤ 131072 ⌝ }
     requires { ⌜ Fit (lentOf (now words) (now bytes) (now swords) (now sbytes)) (now reply) ⌝ }
     ensures { λ _. ⌜ Fit (lentOf (now (words .exit)) (now (bytes .exit)) (now (swords .exit)) (now (sbytes .exit))) (now (reply .exit)) ⌝ }
     ensures { λ r. ⌜ r ≤ 131072 ⌝ }
 {
-    let room = make_room(page, filled, 64);
-    match frame::begin(&line[..len], page, room, counts, held) {
+    match frame::begin(line, page, filled, counts, held) {
         Begun::Answered(n) => n,
         Begun::Serve(session, to, n) => {
             let at = serve_turns(
@@ -144,16 +142,7 @@ fn answer_line(
                 sbytes,
                 reply,
             );
-            let free = make_room(page, at.filled, 64);
-            let mark = at.mark;
-            let last = Progress {
-                from: at.from,
-                replied: at.replied,
-                filled: free,
-                full: false,
-                mark,
-            };
-            frame::end(page, last, counts, held, session, to)
+            frame::end(page, at, counts, held, session, to)
         }
     }
 }
@@ -164,6 +153,7 @@ fn line_end(part: &[u8], from: usize, got: usize) -> usize
     requires { ⌜ got ≤ length (now part) ⌝ }
     ensures { λ r. ⌜ from ≤ r ⌝ }
     ensures { λ r. ⌜ r ≤ got ⌝ }
+    ensures { λ r. ⌜ r ≡ from + lineLength (take (got - from) (drop from (now (part .entry)))) ⌝ }
 {
     let mut i = from;
     while i < got {
@@ -175,145 +165,139 @@ fn line_end(part: &[u8], from: usize, got: usize) -> usize
     got
 }
 
-// Keeps a piece of a line behind the `len` bytes kept of it, as far as there is room.
-fn keep_piece(piece: &[u8], len: usize, line: &mut [u8; LINE]) -> usize
-    requires { ⌜ len ≤ 8196 ⌝ }
-    ensures { λ r. ⌜ r ≤ 8196 ⌝ }
+// How many of the bytes of a line are kept.
+fn kept_of(size: usize) -> usize
+    ensures { λ r. ⌜ r ≡ min size 8196 ⌝ }
 {
-    let mut end = len;
-    let mut i = 0;
-    while i < piece.len() {
-        if end == LINE {
-            return end;
-        }
-        line[end] = piece[i];
-        end += 1;
-        i += 1;
+    if size < LINE {
+        return size;
     }
-    end
+    LINE
 }
 
-// Answers a line, given its last piece; a line of which nothing is kept is not copied.
-fn end_line(
-    piece: &[u8],
-    at: Cursor,
-    line: &mut [u8; LINE],
-    page: &mut [u8; PAGE],
-    counts: &mut [u64; 16],
-    held: &mut [u8; HELD],
-    places: &mut [u64; 2048],
-    words: &mut [u64; STORE_WORDS],
-    bytes: &mut [u8; STORE_BYTES],
-    swords: &mut [u64; SESSION_WORDS],
-    sbytes: &mut [u8; SESSION_BYTES],
-    reply: &mut [u8; 32768],
-) -> Cursor
-    requires { ⌜ Within at ⌝ }
-    requires { ⌜ Fit (lentOf (now words) (now bytes) (now swords) (now sbytes)) (now reply) ⌝ }
-    ensures { λ _. ⌜ Fit (lentOf (now (words .exit)) (now (bytes .exit)) (now (swords .exit)) (now (sbytes .exit))) (now (reply .exit)) ⌝ }
-    ensures { λ r. ⌜ Within r ⌝ }
+// Moves what is kept of the line at hand to the front of the part.
+fn keep_line(part: &mut [u8; PART], from: usize, got: usize) -> usize
+    requires { ⌜ from ≤ got ⌝ }
+    requires { ⌜ got ≤ 65536 ⌝ }
+    ensures { λ r. ⌜ r ≡ min (got - from) 8196 ⌝ }
+    ensures { λ r. ⌜ now (part .exit) ≡ moved from (from + r) (now (part .entry)) ⌝ }
 {
-    let len = at.len;
-    if len == 0 {
-        let filled = answer_line(
-            piece,
-            piece.len(),
-            at.filled,
-            page,
-            counts,
-            held,
-            places,
-            words,
-            bytes,
-            swords,
-            sbytes,
-            reply,
-        );
-        return Cursor { len: 0, filled };
-    }
-    let end = keep_piece(piece, len, line);
-    let filled = answer_line(
-        line,
-        end,
-        at.filled,
-        page,
-        counts,
-        held,
-        places,
-        words,
-        bytes,
-        swords,
-        sbytes,
-        reply,
-    );
-    Cursor { len: 0, filled }
+    let kept = kept_of(got - from);
+    rest::move_down(part, from, from + kept);
+    kept
 }
 
-// Answers the lines that end in the first `got` bytes of a part of the input, and keeps what is behind them.
-fn answer_part(
-    part: &[u8],
-    got: usize,
-    begun: Cursor,
-    line: &mut [u8; LINE],
-    page: &mut [u8; PAGE],
-    counts: &mut [u64; 16],
-    held: &mut [u8; HELD],
-    places: &mut [u64; 2048],
-    words: &mut [u64; STORE_WORDS],
-    bytes: &mut [u8; STORE_BYTES],
-    swords: &mut [u64; SESSION_WORDS],
-    sbytes: &mut [u8; SESSION_BYTES],
-    reply: &mut [u8; 32768],
-) -> Cursor
-    requires { ⌜ got ≤ length (now part) ⌝ }
-    requires { ⌜ Within begun ⌝ }
-    requires { ⌜ Fit (lentOf (now words) (now bytes) (now swords) (now sbytes)) (now reply) ⌝ }
-    ensures { λ _. ⌜ Fit (lentOf (now (words .exit)) (now (bytes .exit)) (now (swords .exit)) (now (sbytes .exit))) (now (reply .exit)) ⌝ }
-    ensures { λ r. ⌜ Within r ⌝ }
+// Reads behind the first `kept` bytes, and gives how many bytes were read.
+fn read_behind(part: &mut [u8], kept: usize) -> usize
+    requires { ⌜ kept ≤ length (now part) ⌝ }
+    ensures { λ r. ⌜ kept + r ≤ length (now (part .exit)) ⌝ }
 {
-    let mut at = begun;
-    let mut i = 0;
-    let mut end = line_end(part, i, got);
-    while end < got {
-        at = end_line(
-            &part[i..end],
-            at,
-            line,
-            page,
-            counts,
-            held,
-            places,
-            words,
-            bytes,
-            swords,
-            sbytes,
-            reply,
-        );
-        i = end + 1;
-        end = line_end(part, i, got);
+    let read = libc::read(STDIN_FILENO, &mut part[kept..]);
+    io::count(read, &part[kept..])
+}
+
+// The end of the input ends a line that has bytes.
+fn end_input(part: &mut [u8; PART], kept: usize) -> Cursor
+    requires { ⌜ kept ≤ 8196 ⌝ }
+    ensures { λ r. ⌜ Within r ⌝ }
+    ensures { λ r. ⌜ r .reads ≡ 0 ⌝ }
+{
+    if kept == 0 {
+        return Cursor {
+            from: 0,
+            end: 0,
+            got: 0,
+            filled: 0,
+            reads: 0,
+        };
     }
-    let len = keep_piece(&part[i..got], at.len, line);
+    part[kept] = 10;
     Cursor {
-        len,
-        filled: at.filled,
+        from: 0,
+        end: kept,
+        got: kept + 1,
+        filled: 0,
+        reads: 0,
     }
 }
 
-// No turn is left where nothing was read.
-fn turns_left(turns: u64, got: usize) -> u64
-    requires { ⌜ 0 < turns ⌝ }
-    ensures { λ r. ⌜ r < turns ⌝ }
+// Writes the page out, and reads on behind what is kept of the line at hand.
+fn read_on(part: &mut [u8; PART], page: &[u8; PAGE], at: Cursor) -> Cursor
+    requires { ⌜ Within at ⌝ }
+    requires { ⌜ 0 < at .reads ⌝ }
+    ensures { λ r. ⌜ Within r ⌝ }
+    ensures { λ r. ⌜ r .reads < at .reads ⌝ }
 {
-    if got == 0 {
-        return 0;
+    make_room(page, at.filled, PAGE);
+    let kept = keep_line(part, at.from, at.got);
+    let count = read_behind(part, kept);
+    if count == 0 {
+        return end_input(part, kept);
     }
-    turns - 1
+    Cursor {
+        from: 0,
+        end: kept,
+        got: kept + count,
+        filled: 0,
+        reads: at.reads - 1,
+    }
 }
 
-// Answers the lines of the input, part by part; a last line without LF is a line.
+// Finds where the line at hand ends in what is read.
+fn find_end(part: &[u8; PART], at: Cursor) -> Cursor
+    requires { ⌜ Within at ⌝ }
+    ensures { λ r. ⌜ Within r ⌝ }
+    ensures { λ r. ⌜ r .reads ≡ at .reads ⌝ }
+    ensures { λ r. ⌜ inputLeft r ≡ inputLeft at ⌝ }
+{
+    Cursor {
+        from: at.from,
+        end: line_end(part, at.end, at.got),
+        got: at.got,
+        filled: at.filled,
+        reads: at.reads,
+    }
+}
+
+// Goes on to the end of the line at hand; a line that ends at `got` is none, and the page is then written out.
+fn next_line(part: &mut [u8; PART], page: &[u8; PAGE], at: Cursor) -> Cursor
+    requires { ⌜ Within at ⌝ }
+    ensures { λ r. ⌜ Within r ⌝ }
+    ensures { λ r. ⌜ inputLeft r ≤ inputLeft at ⌝ }
+{
+    let mut next = find_end(part, at);
+    while 0 < next.reads {
+        if next.end < next.got {
+            return next;
+        }
+        let more = read_on(part, page, next);
+        next = find_end(part, more);
+    }
+    next.filled = make_room(page, next.filled, PAGE);
+    next
+}
+
+// Goes behind the line at hand, which is answered, and makes room for the next one's.
+fn behind(page: &[u8; PAGE], at: Cursor, filled: usize) -> Cursor
+    requires { ⌜ Within at ⌝ }
+    requires { ⌜ at .end < at .got ⌝ }
+    requires { ⌜ filled ≤ 131072 ⌝ }
+    ensures { λ r. ⌜ Within r ⌝ }
+    ensures { λ r. ⌜ inputLeft r < inputLeft at ⌝ }
+{
+    let start = at.end + 1;
+    Cursor {
+        from: start,
+        end: start,
+        got: at.got,
+        filled: make_room(page, filled, 64),
+        reads: at.reads,
+    }
+}
+
+// Answers the lines of the input; a last line without LF is a line.
 fn answer_all(
     part: &mut [u8; PART],
-    line: &mut [u8; LINE],
     page: &mut [u8; PAGE],
     counts: &mut [u64; 16],
     held: &mut [u8; HELD],
@@ -326,37 +310,20 @@ fn answer_all(
 )
     requires { ⌜ Fit (lentOf (now words) (now bytes) (now swords) (now sbytes)) (now reply) ⌝ }
 {
-    let mut at = Cursor { len: 0, filled: 0 };
-    let mut turns: u64 = 18446744073709551615;
-    while 0 < turns {
-        let read = libc::read(STDIN_FILENO, part);
-        let got = io::count(read, part);
-        turns = turns_left(turns, got);
-        let next = answer_part(
-            part,
-            got,
-            at,
-            line,
-            page,
-            counts,
-            held,
-            places,
-            words,
-            bytes,
-            swords,
-            sbytes,
-            reply,
-        );
-        at = Cursor {
-            len: next.len,
-            filled: make_room(page, next.filled, PAGE),
-        };
-    }
-    let len = at.len;
-    if 0 < len {
+    let first = Cursor {
+        from: 0,
+        end: 0,
+        got: 0,
+        filled: 0,
+        reads: 18446744073709551615,
+    };
+    let mut at = next_line(part, page, first);
+    while at.end < at.got {
+        let from = at.from;
+        let end = at.end;
+        let read = &part[..];
         let filled = answer_line(
-            line,
-            len,
+            &read[from..end],
             at.filled,
             page,
             counts,
@@ -368,13 +335,13 @@ fn answer_all(
             sbytes,
             reply,
         );
-        make_room(page, filled, PAGE);
+        let next = behind(page, at, filled);
+        at = next_line(part, page, next);
     }
 }
 
 fn main() {
     let mut part = [0u8; PART];
-    let mut line = [0u8; LINE];
     let mut page = [0u8; PAGE];
     let mut counts = [0u64; 16];
     let mut held = [0u8; HELD];
@@ -389,7 +356,6 @@ fn main() {
     }
     answer_all(
         &mut part,
-        &mut line,
         &mut page,
         &mut counts,
         &mut held,

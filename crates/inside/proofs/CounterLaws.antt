@@ -27,7 +27,7 @@ use Rattle.key.specs.Keys.{Key}
 use Rattle.key.proofs.Bytes.{or-none, or-twice}
 use Rattle.number.specs.Decimal.{decimal}
 use Rattle.number.proofs.Decimals.{decimal-few}
-use Rattle.memtable.specs.Versions.{moved}
+use Rattle.memtable.specs.Versions.{Version, moved}
 use Rattle.server.specs.Command.{Effect, argument, held, raised}
 use Rattle.own.specs.Own.{ownWrites, Own, readerOf}
 use Rattle.reading.proofs.Counters.{raised-bad, raised-over, raised-to}
@@ -65,7 +65,10 @@ behind {text} {more} {longer} {entry} {mid} {last} {n} {m} w v e =
           ∙ rw (e, append-assoc, drop-drop) refl;
     }
 
--- THE NUMBER READ
+-- THE CHECK, AND THE NUMBER READ
+pub name-moved : (seq : ℕ) (vs : List Version) {name k : Key} {m : Bool} → name ≡ k → m ≡ moved seq vs name → m ≡ moved seq vs k
+name-moved seq vs k-is m-is = m-is ∙ ap (moved seq vs) k-is
+
 pub holds : (own : List ℕ) (d : Bytes) (rows : ℕ) (w : List ℕ) (b : Bytes) (s : ℕ) {name k : Key} {h : Number} → name ≡ k → h ≡ held (readerOf own d rows w b s name) → h ≡ held (readerOf own d rows w b s k)
 holds own d rows w b s k-is h-is = h-is ∙ ap (λ (x : Key). held (readerOf own d rows w b s x)) k-is
 

@@ -1,9 +1,8 @@
-// The commands that EXEC runs: each reads through the writes before it.
-pub mod answers;
+// The commands that write inside EXEC: each reads through the writes before it.
 pub mod counters;
 pub mod keys;
+pub mod live;
 pub mod pairs;
-pub mod queued;
 pub mod tombstones;
 
 use writing::Put;

@@ -1,7 +1,7 @@
 // DEL inside EXEC.
 use crate::Walked;
-use crate::answers;
 use crate::keys;
+use crate::live;
 use own::arguments;
 ghost use mathlib.Core.List.{[]};
 ghost use Prim.Native.Nat.{_+_, _-_, _*_, _≤_};
@@ -32,7 +32,7 @@ pub fn run_tombstones(
     ensures { λ r. ⌜ Ran (tombstonesEffect (readerOf (now (own .entry)) (now («data» .entry)) (at .rows) (now (words .entry)) (now (bytes .entry)) seq) (argumentsAt 0 count (now (places .entry)) (now («data» .entry)))) [] (count - 1) seq (now (words .entry)) (now (bytes .entry)) (now («data» .entry)) (now (own .entry)) (now (out .entry)) at (now (own .exit)) (now (out .exit)) r ⌝ }
 {
     let put = at.put;
-    let next = answers::then_live(
+    let next = live::then_live(
         places,
         count,
         own,

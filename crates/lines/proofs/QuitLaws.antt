@@ -11,9 +11,9 @@ use Rattle.key.specs.Bytes.{Bytes}
 use Rattle.resp.specs.declared.Span.{Span}
 use Rattle.resp.specs.Request.{Reading, waits, faulty, tooMany, whole, readRequest, spanned}
 use Rattle.resp.specs.Steps.{spanWords, argumentWords}
-use Rattle.server.specs.declared.names.Control.{Control as Said}
+use Rattle.names.specs.declared.Control.{Control as Said}
 use Rattle.server.specs.Names.{rowOf, Row, Control, MULTI, EXEC, DISCARD, WATCH, UNWATCH, QUIT, other, controlOf}
-use Rattle.server.specs.Rows.{rowAt, Looked, controlSaid}
+use Rattle.names.specs.Rows.{rowAt, Looked, controlSaid}
 use Rattle.server.specs.declared.Answer.{Answer}
 use Rattle.server.specs.Session.{Session, clear, says, respond}
 use Rattle.memtable.specs.Versions.{Store}

@@ -9,9 +9,9 @@ use Rattle.resp.specs.declared.Span.{Span}
 use Rattle.resp.specs.Request.{Reading, readRequest, span, spanned}
 use Rattle.server.specs.declared.Answer.{Answer}
 use Rattle.calls.specs.Frames.{closes}
-use Rattle.server.specs.declared.names.Control.{Control as Said}
+use Rattle.names.specs.declared.Control.{Control as Said}
 use Rattle.server.specs.Names.{rowOf, Control, MULTI, EXEC, DISCARD, WATCH, UNWATCH, QUIT, other, controlOf}
-use Rattle.server.specs.Rows.{controlSaid}
+use Rattle.names.specs.Rows.{controlSaid}
 
 abbrev pub isQuit : Control → Bool
 isQuit MULTI = false

@@ -1,7 +1,6 @@
 // Whether a request is QUIT, which drops the rest of its frame.
+use names::Control;
 use resp::Span;
-use server::names;
-use server::names::Control;
 ghost use mathlib.Core.Path.{_≡_};
 ghost use Prim.Native.Nat.{_≤_};
 ghost use lib.ListN.{length};

@@ -9,7 +9,7 @@ pub enum Kept {
 }
 
 // Moves the bytes from `from` to `to` to the front.
-fn move_down(held: &mut [u8], from: usize, to: usize)
+pub fn move_down(held: &mut [u8], from: usize, to: usize)
     requires { ⌜ Within from to (now held) ⌝ }
     ensures { λ _. ⌜ now (held .exit) ≡ moved from to (now (held .entry)) ⌝ }
 {

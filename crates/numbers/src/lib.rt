@@ -20,7 +20,7 @@ pub fn request_number(
     if !valid::validate(words, bytes) {
         return 9;
     }
-    if sessions::sessions_ok(swords, sbytes, words[2]) {
+    if validity::sessions_ok(swords, sbytes, words[2]) {
         return 0;
     }
     9

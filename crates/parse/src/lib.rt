@@ -1,3 +1,2 @@
 // Reading a request from the bytes of a connection (src/resp.rs).
-pub mod argument;
 pub mod request;

@@ -1,10 +1,9 @@
 // Reading one request: an array of arguments, or an inline line.
-use crate::argument;
+use bulk::Argument;
+use headers::Count;
 use resp::Fault;
 use resp::Header;
 use resp::Read;
-use resp::argument::Argument;
-use resp::argument::Count;
 use resp::inline;
 use resp::line;
 use resp::line::Line;
@@ -12,7 +11,8 @@ use resp::table;
 ghost use Prim.Native.Nat.{_/_};
 ghost use lib.ListN.{length, take, drop};
 ghost use Rattle.resp.specs.Request.{line, readArguments, readArray, readRequest};
-ghost use Rattle.resp.specs.Steps.{ReadIs, ArgumentsIn, ArrayLine};
+ghost use Rattle.resp.specs.Steps.{ReadIs};
+ghost use Rattle.parse.specs.Requests.{ArgumentsIn, ArrayLine};
 
 // Reads `count` arguments, from `from` on.
 fn read_arguments(input: &[u8], places: &mut [u64], count: usize, from: usize) -> Read
@@ -22,7 +22,7 @@ fn read_arguments(input: &[u8], places: &mut [u64], count: usize, from: usize) -
     let mut at = from;
     let mut i = 0;
     while i < count {
-        match argument::read_argument(input, at) {
+        match bulk::read_argument(input, at) {
             Argument::Unread => return Read::Wait,
             Argument::Faulty(f) => return Read::Faulty(f),
             Argument::Part(start, len) => {
@@ -40,7 +40,7 @@ fn read_array(input: &[u8], places: &mut [u64], len: usize, used: usize) -> Read
     requires { ⌜ ArrayLine (now input) len used ⌝ }
     ensures { λ r. ⌜ ReadIs (readArray (length (now (places .entry)) / 2) (now (input .entry)) (line (take len (now (input .entry))) used)) r (now (places .exit)) ⌝ }
 {
-    match argument::read_header(Header::Multibulk, 1, &input[1..len]) {
+    match headers::read_header(Header::Multibulk, 1, &input[1..len]) {
         Count::Counts(n) => {
             let count = n as usize;
             if places.len() / 2 < count {

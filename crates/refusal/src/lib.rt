@@ -1,7 +1,6 @@
 // The reply to a protocol error.
 use decimal::digits;
 use encode::reply;
-use parse::argument;
 use resp::Fault;
 use resp::Header;
 use resp::Letters;
@@ -69,7 +68,7 @@ fn then_over_limit(out: &mut [u8], put: Put, input: &[u8], kind: Header, n: u64)
     let parted = writing::then_bytes(out, named, b" ");
     let counted = digits::then_digits(out, parted, n);
     let said = writing::then_bytes(out, counted, b" is over the limit of ");
-    digits::then_digits(out, said, argument::limit(kind))
+    digits::then_digits(out, said, headers::limit(kind))
 }
 
 // An argument's line that does not begin with `$`: its first byte, quoted.

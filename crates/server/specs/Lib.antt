@@ -9,7 +9,6 @@ pub mod Lent
 pub mod Names
 pub mod Opens
 pub mod Places
-pub mod Rows
 pub mod Session
 pub mod Sessions
 pub mod Watch

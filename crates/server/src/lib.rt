@@ -1,5 +1,4 @@
 // Commands and sessions (src/server.rs).
-pub mod names;
 pub mod pattern;
 pub mod watched;
 

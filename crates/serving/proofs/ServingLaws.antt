@@ -30,18 +30,18 @@ use Rattle.memtable.proofs.Sequence.{leave-words-same, leave-bytes-same}
 use Rattle.server.specs.declared.Answer.{Answer}
 use Rattle.server.specs.Session.{Session}
 use Rattle.server.specs.Sessions.{sessionFrom, sessionOk, sessionAt, wordsOfSession, bytesOfSession, validSessions, leaveSessionWords, leaveSessionBytes}
-use Rattle.server.specs.Held.{Held}
 use Rattle.server.specs.Places.{argumentsAt, PartsIn}
 use Rattle.server.specs.Finish.{Served, silent, replyBuffer}
-use Rattle.sessions.proofs.Kept.{words-kept, bytes-kept, held-by-tests, session-held}
+use Rattle.sessions.proofs.Kept.{words-kept, bytes-kept, session-held}
 use Rattle.server.proofs.LayoutLaws.{Sixteen, sixteen, own-words, own-bytes}
 use Rattle.answer.specs.Answers.{refusal}
-use Rattle.exec.specs.Leaving.{Closes}
+use Rattle.conclude.specs.Leaving.{Closes}
 use Rattle.session.specs.Responds.{responded, Left, Ready}
 use Rattle.session.proofs.Among.{lentAt, backAt, lent-words, lent-bytes, lent-session, words-back, bytes-back}
 use Rattle.calls.specs.Serve.{protocolError, serveReading, serve}
 use Rattle.calls.specs.Calls.{Lent, lentOf, valid, leaveStore, leaveSession, leaveServed, Called, answerOf, RequestPromise, TablePromise}
 use Rattle.serving.specs.Serving.{FaultLeft, wholeServed, servedIn, TableHolds, ReadyAmong}
+use Rattle.serving.proofs.RespondLaws.{ready-held}
 use Rattle.calls.proofs.ServeLaws.{ServeKept, serve-kept}
 use Rattle.calls.proofs.LentLaws.{valid-parts, session-good, eqb-differs}
 use Rattle.calls.proofs.CallLaws.{served}
@@ -53,9 +53,6 @@ unfolding protocolError
 fault-answered input f s out {put} {mid} p c = record { leaves = λ w b sb v z h. c .leaves (protocolError input f) w b out mid sb v z p h }
 
 -- SILENT: nothing changes, and the reply buffer stays cleared
-pub ready-held : {w : List ℕ} {b : Bytes} {s : List ℕ} {sb out : Bytes} → Ready w b s sb out → Held s sb
-ready-held {w} {b} {s} {sb} h = held-by-tests (lastWord w) s sb (h .one) (h .ok)
-
 silent-left : {w : List ℕ} {b : Bytes} {s : List ℕ} {sb out : Bytes} (n used : ℕ) → Ready w b s sb out
     → Left (silent n used (storeIn w b) (sessionFrom s sb)) out w b s sb (record { number = n; used = used; reply = 0 }) out w b s sb
 unfolding replyBuffer

@@ -16,7 +16,7 @@ use Rattle.server.specs.Sessions.{sessionFrom}
 use Rattle.server.specs.Held.{Held}
 use Rattle.server.specs.Places.{argumentsAt}
 use Rattle.server.specs.Finish.{Served, silent, finish}
-use Rattle.exec.specs.Leaving.{Leaves}
+use Rattle.conclude.specs.Leaving.{Leaves}
 use Rattle.session.specs.Responds.{responded}
 use Rattle.calls.specs.Serve.{protocolError, serve}
 use Rattle.calls.specs.Calls.{lentOf, valid}

@@ -1,5 +1,6 @@
 // One request on memory that is known to be valid: it is read, answered by its route, or refused.
-use exec::closing;
+mod respond;
+
 use parse::request;
 use resp::Fault;
 use resp::Read;
@@ -19,7 +20,7 @@ fn answer_fault(input: &[u8], fault: Fault, swords: &mut [u64], out: &mut [u8]) 
     ensures { λ r. ⌜ FaultLeft (now (input .entry)) fault (now (swords .entry)) (now (out .entry)) r (now (swords .exit)) (now (out .exit)) ⌝ }
 {
     let put = refusal::put_fault(out, input, fault);
-    closing::close(swords, put, input.len())
+    conclude::close(swords, put, input.len())
 }
 
 // A request that was read: `count` arguments.

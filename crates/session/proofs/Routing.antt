@@ -11,9 +11,9 @@ use Rattle.memtable.specs.Versions.{Store}
 use Rattle.server.specs.declared.Answer.{Answer}
 use Rattle.server.specs.declared.Fixed.{Fixed}
 use Rattle.server.specs.declared.Fixed.the-variants.{Ok}
-use Rattle.server.specs.declared.names.Control.{Control as Said}
+use Rattle.names.specs.declared.Control.{Control as Said}
 use Rattle.server.specs.Names.{Args, Row, rowOf, nameWord, controlOf, Control, MULTI, EXEC, DISCARD, WATCH, UNWATCH, QUIT, other}
-use Rattle.server.specs.Rows.{rowAt, Looked, controlSaid}
+use Rattle.names.specs.Rows.{rowAt, Looked, controlSaid}
 use Rattle.server.specs.Session.{Session, says, watching, enqueue, notQueueable, outsideMulti, insideMulti, respondBy, respond, marked}
 use Rattle.server.specs.Sessions.{yes?, queueIn, sessionFrom, multiOf}
 use Rattle.server.specs.Errors.{fixedReply}

@@ -17,7 +17,7 @@ use Rattle.server.specs.declared.Fixed.the-variants.{Ok}
 use Rattle.server.specs.declared.watched.Grown.{Grown}
 use Rattle.server.specs.declared.watched.Grown.the-variants as grown
 use Rattle.server.specs.Names.{rowOf, countRight, arity}
-use Rattle.server.specs.Rows.{rowAt, Looked}
+use Rattle.names.specs.Rows.{rowAt, Looked}
 use Rattle.server.specs.Session.{Session, says, returns, addKeys, watchFits}
 use Rattle.server.specs.Sessions.{keysIn, sessionFrom}
 use Rattle.server.specs.Errors.{fixedReply, arityOf}

@@ -9,7 +9,7 @@ ghost use Prim.Native.Nat.{_≤_};
 ghost use lib.ListN.{length, getD, replicate};
 ghost use Rattle.key.specs.Bytes.{part};
 ghost use Rattle.server.specs.Names.{rowOf};
-ghost use Rattle.server.specs.Rows.{Looked};
+ghost use Rattle.names.specs.Rows.{Looked};
 ghost use Rattle.server.specs.Held.{Held};
 ghost use Rattle.server.specs.Places.{argumentsAt, PartsIn};
 ghost use Rattle.session.specs.Answers.{AnsweredWith};

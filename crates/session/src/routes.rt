@@ -1,12 +1,11 @@
 // Which of the ways to answer a request has, by the session and the row of its name.
+use names::Control;
 use server::Fixed;
-use server::names;
-use server::names::Control;
 ghost use mathlib.Core.Path.{_≡_};
 ghost use Prim.Native.Nat.{_<_};
 ghost use lib.ListN.{length, getD};
 ghost use Rattle.server.specs.Names.{controlOf};
-ghost use Rattle.server.specs.Rows.{rowAt, controlSaid};
+ghost use Rattle.names.specs.Rows.{rowAt, controlSaid};
 ghost use Rattle.server.specs.Sessions.{yes?};
 ghost use Rattle.session.specs.Routes.{outsideRoute, insideRoute, routeBy};
 

@@ -2,14 +2,13 @@
 use crate::answers;
 use server::Answer;
 use server::Fixed;
-use server::names;
 use server::watched::Grown;
 use writing::Put;
 ghost use mathlib.Core.Path.{_≡_};
 ghost use Prim.Native.Nat.{_-_, _≤_};
 ghost use lib.ListN.{length, replicate};
 ghost use Rattle.server.specs.Names.{rowOf};
-ghost use Rattle.server.specs.Rows.{Looked};
+ghost use Rattle.names.specs.Rows.{Looked};
 ghost use Rattle.server.specs.Held.{Held};
 ghost use Rattle.server.specs.Places.{argumentsAt, PartsIn};
 ghost use Rattle.session.specs.Answers.{Answered};

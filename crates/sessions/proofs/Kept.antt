@@ -1,12 +1,12 @@
 -- A valid session read and written back is as it was; and the changes that touch its head alone. Assumes nothing.
 use mathlib.Core.Path.{_≡_, refl, sym, ap, _∙_}
-use mathlib.Core.Bool.{Bool, true, false, cond}
+use mathlib.Core.Bool.{Bool, true, false, not, cond}
 use mathlib.Core.List.{List, [], _∷_, _++_, map}
 use mathlib.Core.Option.{none, some}
 use Prim.Native.Nat.{ℕ, zero, suc, _+_, _*_, _<_, _≤_}
 use native.Mathlib.Nat.{suc-mul, add-comm}
 use native.Mathlib.Omega.{arith}
-use borrow.Author.Tests.{leb-true, eqb-true}
+use borrow.Author.Tests.{ne-eqb, leb-true, eqb-true}
 use lib.Dec.{leb, eqb}
 use lib.ListN.{length, getD, take, drop, set, length-drop}
 use lib.Seq.{drop-drop, take-all, take-take}
@@ -17,9 +17,8 @@ use Rattle.server.specs.Session.{clear, marked}
 use Rattle.server.specs.Sessions.{splitBy, keysIn, queueIn, yes?, watchFrom, sessionFrom, ascending, allQueueable, watchOk, queueOk, sessionOk, flagWord, multiOf, queueOf, keysHeld, snapshotOr, sessionWords, sessionBytes, wordsOfSession, bytesOfSession, sessionsOkIn, validSessions}
 use Rattle.server.specs.Lent.{OneSession, QueueIn, queueSizesOk}
 use Rattle.server.specs.Held.{Held, Left, cleared, opened, unwatched}
-use Rattle.server.proofs.LayoutLaws.{flag-nonzero}
 use Rattle.server.proofs.Parts.{part-add, split-length, split-lengths, split-concat, over-own}
-use Rattle.sessions.proofs.SessionTests.{sizes-in, queue-as, sessions-true, sessions-false}
+use Rattle.sessions.proofs.TestParts.{sizes-in, queue-as, sessions-true, sessions-false}
 
 -- THE SHAPE of 613 words and 10,240 bytes.
 five : (w : List ℕ) → 5 ≤ length w → w ≡ getD w 0 0 ∷ getD w 1 0 ∷ getD w 2 0 ∷ getD w 3 0 ∷ getD w 4 0 ∷ drop 5 w
@@ -299,8 +298,6 @@ session-held last w b e i h =
     (record { words = length-part (i * 613) 613 w (omega arith); bytes = length-part (i * 10240) 10240 b (omega arith) })
     (sessions-each last 16 w b (and-right (leb 163840 (length b)) (sessionsOkIn last 16 w b) r) i h)
 
-pub flag-no : (n : ℕ) → n ≡ 0 → false ≡ yes? n
-flag-no n e = rw e
-
-pub flag-yes : (n : ℕ) → (n ≡ 0 → ⊥) → true ≡ yes? n
-flag-yes n h = sym (flag-nonzero n h)
+pub flag-is : (n : ℕ) → not (eqb n 0) ≡ yes? n
+flag-is zero = refl
+flag-is (suc n) = ap not (ne-eqb (suc n) 0 (λ e. omega arith))

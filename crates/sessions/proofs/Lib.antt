@@ -2,8 +2,8 @@
 pub mod Expanding
 pub mod Kept
 pub mod Queueing
-pub mod SessionTests
-pub mod Validity
+pub mod Sums
+pub mod TestParts
 pub mod WatchCall
 pub mod Watching
 pub mod Writes

@@ -18,7 +18,7 @@ use Rattle.server.specs.Lent.{capped}
 use Rattle.server.specs.Held.{Held}
 use Rattle.server.specs.Places.{argumentsAt, lengthsAt, PartsIn, QueueSizes, Takes, HasRoom, queuing, Appended}
 use Rattle.server.proofs.Parts.{total-append}
-use Rattle.sessions.proofs.Validity.{capped-low, capped-high}
+use Rattle.sessions.proofs.Sums.{capped-low, capped-high}
 use Rattle.sessions.proofs.Writes.{written-none, written-more, written-set, written-one, written-first, written-second, length-written, over-behind}
 use Rattle.sessions.proofs.Kept.{front-part, data-length, queue-data-length, shape, bytes-shape, queue-count, queue-counts, queue-lengths, queue-bytes, failed-kept, snapshot-kept, watched-kept, keys-table, keys-data}
 use Rattle.server.proofs.PlaceLaws.{lengths-next, lengths-end, lengths-snoc, lengths-count, arguments-snoc, arguments-count, arguments-lengths}

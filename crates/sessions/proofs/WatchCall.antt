@@ -16,7 +16,7 @@ use Rattle.server.specs.Sessions.{splitBy, keysIn, yes?, watchFrom, sessionFrom
 use Rattle.server.specs.Lent.{capped}
 use Rattle.server.specs.Held.{Held}
 use Rattle.server.specs.Watch.{keysOf, WatchTable, Holding, GrownTo, keysWith, watchingWith, AllWatched, watchWords, WatchPut}
-use Rattle.sessions.proofs.Validity.{capped-low}
+use Rattle.sessions.proofs.Sums.{capped-low}
 use Rattle.sessions.proofs.Writes.{written-first, written-second}
 use Rattle.sessions.proofs.Kept.{shape, bytes-shape, front-part, data-length, multi-kept, failed-kept, queued-kept, counts-table, lengths-table, queue-data}
 

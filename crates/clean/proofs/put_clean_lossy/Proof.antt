@@ -3,7 +3,7 @@ use Prim.Native.Nat.{_-_}
 use borrow.Author.Needs.{needs}
 use lib.ListN.{length}
 use native.Mathlib.Omega.{arith}
-use Rattle.resp.proofs.Pieces.{Sized, whole-sized, broken-sized, rest-not-empty}
+use Rattle.utf8.proofs.Pieces.{Sized, whole-sized, broken-sized, rest-not-empty}
 use Rattle.clean.proofs.Letters.{Shown, shown-none, shown-whole, shown-broken, shown-full, shown-all}
 use Rattle.writing.proofs.Puts.{length-kept}
 use Rattle.clean.proofs.put_clean_lossy.Statement.{statement}

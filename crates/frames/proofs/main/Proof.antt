@@ -18,7 +18,7 @@ returns : tie.Need-returns
 returns c = search needs
 
 answer-all-requires : tie.Need-answer-all-requires
-answer-all-requires c κs = opened-fit 9808 163840 32768 (omega arith) (omega arith) (omega arith) (c .before .before .before .before .before .before .before .before .before .before .before .before .before .«open» .ensures)
+answer-all-requires c κs = opened-fit (omega arith) (c .before .before .before .before .before .before .before .before .before .before .before .before .«open» .ensures)
 
 returns-2 : tie.Need-returns-2
 returns-2 c = search needs

@@ -36,16 +36,19 @@ part-serve-some-end : tie.Need-part-serve-some-end Inv-loop μ-loop
 part-serve-some-end c = search needs
 
 serve-some-requires : tie.Need-serve-some-requires Inv-loop μ-loop
-serve-some-requires c κs = (search needs, c .before .before .before .before .before .before .before .before .before .before .before .before .loop .inv .1)
+serve-some-requires c κs = (search needs, c .before .before .before .before .before .before .before .before .before .before .before .loop .inv .1)
 
 loop-less : tie.Need-loop-less Inv-loop μ-loop
-loop-less c = turn-less (c .before .before .before .before .before .before .before .before .before .before .before .before .before .before .before .args .held .now) (c .before .before .before .before .before .before .before .before .before .before .before .before .before .loop .inv .0) (c .before .before .before .before .before .before .before .before .before .before .before .before .before .before .before .pre .1 .1 .1 .0) (c .serve-some .ensures .1) (c .before .before .before .before .before .before .before .before .before .before .before .before .loop-test .taken)
+loop-less c = turn-less (c .before .before .before .before .before .before .before .before .before .before .before .before .before .before .args .held .now) (c .before .before .before .before .before .before .before .before .before .before .before .before .loop .inv .0) (c .before .before .before .before .before .before .before .before .before .before .before .before .before .before .pre .1 .1 .1 .0) (c .serve-some .ensures .1) (c .before .before .before .before .before .before .before .before .before .before .before .loop-test .taken)
 
 loop-again : tie.Need-loop-again Inv-loop μ-loop
-loop-again c = (turn-again (c .before .before .before .before .before .before .before .before .before .before .before .before .before .before .before .args .held .now) (c .before .before .before .before .before .before .before .before .before .before .before .before .before .loop .inv .0) (c .before .before .before .before .before .before .before .before .before .before .before .before .before .before .before .pre .1 .1 .1 .0) (c .serve-some .ensures .1) (search needs), c .serve-some .ensures .0)
+loop-again c = (turn-again (c .before .before .before .before .before .before .before .before .before .before .before .before .before .before .args .held .now) (c .before .before .before .before .before .before .before .before .before .before .before .before .loop .inv .0) (c .before .before .before .before .before .before .before .before .before .before .before .before .before .before .pre .1 .1 .1 .0) (c .serve-some .ensures .1) (search needs), c .serve-some .ensures .0)
+
+make-room-requires-2 : tie.Need-make-room-requires-2 Inv-loop μ-loop
+make-room-requires-2 c κs = search needs
 
 returns : tie.Need-returns Inv-loop μ-loop
-returns c = (c .before .loop .inv .1, turns-over (c .before .loop .inv .0))
+returns c = (c .before .before .before .loop .inv .1, turns-over (c .before .before .before .loop .inv .0) (c .make-room2 .ensures))
 
 pub serve-turns-spec : {M : Type 1} → statement M
 serve-turns-spec =
@@ -63,4 +66,5 @@ serve-turns-spec =
     serve-some-requires
     loop-less
     loop-again
+    make-room-requires-2
     returns)

@@ -1,7 +1,7 @@
 -- `sessions::sum_within` meets its contract. The invariant: the first i words are summed, `Summing`. Assumes nothing.
 use Prim.Native.Nat.{_-_}
 use borrow.Author.Needs.{needs}
-use Rattle.sessions.proofs.Validity.{Summing, summing-none, summing-more, sum-above, summed-all}
+use Rattle.sessions.proofs.Sums.{Summing, summing-none, summing-more, sum-above, summed-all}
 use Rattle.sessions.proofs.sum_within.Statement.{statement}
 use Rattle.sessions.proofs.sum_within.Tie as tie
 

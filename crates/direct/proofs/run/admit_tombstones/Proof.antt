@@ -1,14 +1,11 @@
 -- `direct::run::admit_tombstones` meets its contract. Assumes nothing.
-use Rattle.direct.proofs.Commands.{live-fits, admits-tombstones}
+use Rattle.direct.proofs.Commands.{admits-tombstones}
 use borrow.Author.Needs.{needs}
 use Rattle.direct.proofs.run.admit_tombstones.Statement.{statement}
 use Rattle.direct.proofs.run.admit_tombstones.Tie as tie
 
-count-live-requires : tie.Need-count-live-requires
-count-live-requires c κs = search needs
-
-put-count-requires : tie.Need-put-count-requires
-put-count-requires c κs = live-fits _ _ _ _ _ (c .before .count-live .ensures) (c .before .before .before .before .before .before .before .pre .0) (search needs)
+put-live-requires : tie.Need-put-live-requires
+put-live-requires c κs = search needs
 
 free-bytes-requires : tie.Need-free-bytes-requires
 free-bytes-requires c κs = search needs
@@ -29,14 +26,13 @@ same-length : tie.Need-same-length
 same-length c = search needs
 
 returns : tie.Need-returns
-returns c = admits-tombstones _ _ _ _ _ _ (c .before .before .before .before .before .before .before .before .before .before .before .count-live .ensures) (c .before .before .before .before .before .before .before .before .before .put-count .ensures) (c .before .before .before .before .before .before .free-bytes .ensures) (c .before .before .before .before .before .lengths-left .ensures) (c .before .before .before .before .verdict-for .ensures) (c .before .before .verdict-answer .ensures .0) (c .before .before .verdict-answer .ensures .1) (c .before .before .before .before .before .before .before .before .before .before .before .before .before .before .before .before .before .pre .1 .1 .0) (c .before .before .before .before .before .before .before .before .before .before .before .before .before .before .before .before .before .pre .1 .0) (c .before .before .before .before .before .before .before .before .before .before .before .before .before .before .before .before .before .pre .0) (c .before .before .before .before .before .before .before .before .before .before .before .before .before .before .before .before .before .pre .1 .1 .1)
+returns c = search admits-tombstones
 
 pub admit-tombstones-spec : {M : Type 1} → statement M
 admit-tombstones-spec =
     tie.close
     (tie.spec
-    count-live-requires
-    put-count-requires
+    put-live-requires
     free-bytes-requires
     lengths-left-requires
     sub-verdict-for

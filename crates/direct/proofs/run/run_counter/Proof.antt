@@ -51,7 +51,7 @@ same-length-6 : tie.Need-same-length-6
 same-length-6 c = search needs
 
 returns-2 : tie.Need-returns-2
-returns-2 c = raised-overflow _ _ _ _ _ (c .before .before .before .before .before .before .before .before .before .before .before .before .held-number .ensures) (c .before .before .before .before .before .before .before .before .before .before .number .given .1) (toZ-ofZ (record { sfits = c .before .before .before .before .before .before .before .before .before .known-told .given .0 .1 })) (toZ-ofZ (c .before .before .before .before .before .before .before .before .before .before .before .before .before .before .before .before .before .before .before .before .fits .by)) (c .before .before .before .before .before .before .before .before .checked-sum .ensures) (c .before .before .before .before .before .before .enum-told2 .given .1) (c .before .before .answer-fixed2 .ensures)
+returns-2 c = raised-overflow _ _ _ _ _ (c .before .before .before .before .before .before .before .before .before .before .before .before .held-number .ensures) (c .before .before .before .before .before .before .before .before .before .before .number .given .1) (toZ-ofZ (record { sfits = c .before .before .before .before .before .before .before .before .before .known-told .given .0 .1 })) (toZ-ofZ (c .before .before .before .before .before .before .before .before .before .before .before .before .before .before .before .before .before .before .before .fits .by)) (c .before .before .before .before .before .before .before .before .checked-sum .ensures) (c .before .before .before .before .before .before .enum-told2 .given .1) (c .before .before .answer-fixed2 .ensures)
 
 run-number-requires : tie.Need-run-number-requires
 run-number-requires c κs = search needs
@@ -65,11 +65,8 @@ same-length-8 c = search needs
 same-length-9 : tie.Need-same-length-9
 same-length-9 c = search needs
 
-same-length-10 : tie.Need-same-length-10
-same-length-10 c = search needs
-
 returns-3 : tie.Need-returns-3
-returns-3 c = raised-runs _ _ _ _ _ (c .before .before .before .before .before .before .before .before .before .before .before .before .before .before .before .before .before .before .before .before .held-number .ensures) (c .before .before .before .before .before .before .before .before .before .before .before .before .before .before .before .before .before .before .number .given .1) (toZ-ofZ (record { sfits = c .before .before .before .before .before .before .before .before .before .before .before .before .before .before .before .before .before .known-told .given .0 .1 })) (toZ-ofZ (c .before .before .before .before .before .before .before .before .before .before .before .before .before .before .before .before .before .before .before .before .before .before .before .before .before .before .before .before .fits .by)) (c .before .before .before .before .before .before .before .before .before .before .before .before .before .before .before .before .checked-sum .ensures) (c .before .before .before .before .before .before .before .before .before .before .before .before .before .before .sum .given .1) (toZ-ofZ (record { sfits = c .before .before .before .before .before .before .before .before .before .before .before .before .before .known-told2 .given .0 .1 })) (c .before .before .before .before .before .before .before .before .run-number .ensures)
+returns-3 c = raised-runs _ _ _ _ _ (c .before .before .before .before .before .before .before .before .before .before .before .before .before .before .before .before .before .held-number .ensures) (c .before .before .before .before .before .before .before .before .before .before .before .before .before .before .before .number .given .1) (toZ-ofZ (record { sfits = c .before .before .before .before .before .before .before .before .before .before .before .before .before .before .known-told .given .0 .1 })) (toZ-ofZ (c .before .before .before .before .before .before .before .before .before .before .before .before .before .before .before .before .before .before .before .before .before .before .before .before .fits .by)) (c .before .before .before .before .before .before .before .before .before .before .before .before .before .checked-sum .ensures) (c .before .before .before .before .before .before .before .before .before .before .before .sum .given .1) (toZ-ofZ (record { sfits = c .before .before .before .before .before .before .before .before .before .before .known-told2 .given .0 .1 })) (c .before .before .before .before .before .before .run-number .ensures)
 
 pub run-counter-spec : {M : Type 1} → statement M
 run-counter-spec =
@@ -95,5 +92,4 @@ run-counter-spec =
     same-length-7
     same-length-8
     same-length-9
-    same-length-10
     returns-3)

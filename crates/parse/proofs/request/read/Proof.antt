@@ -1,7 +1,7 @@
 -- `parse::request::read` meets its contract. By the line, and then by the first byte. Assumes nothing.
 use borrow.Author.Needs.{needs}
 use Rattle.resp.proofs.Lines.{text-lent}
-use Rattle.resp.proofs.Requests.{request-none, request-unfinished, request-too-long, request-array-line, request-array, request-inline}
+use Rattle.parse.proofs.Requests.{request-none, request-unfinished, request-too-long, request-array-line, request-array, request-inline}
 use Rattle.parse.proofs.request.read.Statement.{statement}
 use Rattle.parse.proofs.request.read.Tie as tie
 

@@ -2,7 +2,7 @@
 use Prim.Native.Nat.{_-_}
 use borrow.Author.Needs.{needs}
 use native.Mathlib.Omega.{arith}
-use Rattle.resp.proofs.Requests.{Passed, passed-none, passed-inside, passed-unread, passed-faulty, passed-place, passed-more, passed-all}
+use Rattle.parse.proofs.Requests.{Passed, passed-none, passed-inside, passed-unread, passed-faulty, passed-place, passed-more, passed-all}
 use Rattle.parse.proofs.request.read_arguments.Statement.{statement}
 use Rattle.parse.proofs.request.read_arguments.Tie as tie
 

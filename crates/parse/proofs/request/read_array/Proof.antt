@@ -1,6 +1,6 @@
 -- `parse::request::read_array` meets its contract. By the count. Assumes nothing.
 use borrow.Author.Needs.{needs}
-use Rattle.resp.proofs.Requests.{array-wrong, array-too-many, array-arguments-in, array-arguments}
+use Rattle.parse.proofs.Requests.{array-wrong, array-too-many, array-arguments-in, array-arguments}
 use Rattle.parse.proofs.request.read_array.Statement.{statement}
 use Rattle.parse.proofs.request.read_array.Tie as tie
 

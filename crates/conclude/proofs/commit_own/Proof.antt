@@ -1,0 +1,20 @@
+-- `conclude::commit_own` meets its contract. Assumes nothing.
+use Rattle.conclude.proofs.ConcludeLaws.{own-listed, own-written, own-bytes}
+use borrow.Author.Needs.{needs}
+use Rattle.conclude.proofs.commit_own.Statement.{statement}
+use Rattle.conclude.proofs.commit_own.Tie as tie
+
+commit-ascending-requires : tie.Need-commit-ascending-requires
+commit-ascending-requires c κs = (search needs, (search needs, (search needs, search own-listed)))
+
+same-length : tie.Need-same-length
+same-length c = search needs
+
+same-length-2 : tie.Need-same-length-2
+same-length-2 c = search needs
+
+returns : tie.Need-returns
+returns c = (search own-written, search own-bytes)
+
+pub commit-own-spec : {M : Type 1} → statement M
+commit-own-spec = tie.close (tie.spec commit-ascending-requires same-length same-length-2 returns)

@@ -1,0 +1,148 @@
+// One queued command run, and all of them.
+use crate::answers;
+use command::Kind;
+use command::kinds;
+use encode::reply;
+use inside::Walked;
+use inside::counters;
+use inside::pairs;
+use inside::tombstones;
+ghost use Prim.Native.Nat.{_+_, _-_, _*_, _≤_};
+ghost use lib.ListN.{length, getD, take};
+ghost use Rattle.memtable.specs.Rows.{Valid, versionsIn};
+ghost use Rattle.server.specs.Command.{commandOf, run, checks};
+ghost use Rattle.server.specs.Places.{argumentsAt, PartsIn};
+ghost use Rattle.own.specs.Own.{Own, readerOf};
+ghost use Rattle.inside.specs.Walks.{Advanced};
+ghost use Rattle.exec.specs.Progress.{begun, advanceAll, Queued, commandsIn, QueueRan};
+
+// Runs a queued command.
+pub fn run_queued(
+    places: &[u64],
+    count: usize,
+    own: &mut [u64],
+    data: &mut [u8],
+    words: &[u64],
+    bytes: &[u8],
+    seq: u64,
+    out: &mut [u8],
+    at: Walked,
+) -> Walked
+    requires { ⌜ Own (now own) (take (at .used) (now «data»)) (at .rows) ⌝ }
+    requires { ⌜ Valid (now words) (now bytes) ⌝ }
+    requires { ⌜ PartsIn (now places) (take (at .used) (now «data»)) count ⌝ }
+    requires { ⌜ 1 ≤ count ⌝ }
+    requires { ⌜ 4 * (at .rows + (count - 1)) ≤ length (now own) ⌝ }
+    requires { ⌜ at .used + 20 ≤ length (now «data») ⌝ }
+    ensures { λ r. ⌜ Advanced (run (readerOf (now (own .entry)) (take (at .used) (now («data» .entry))) (at .rows) (now (words .entry)) (now (bytes .entry)) seq) (commandOf (argumentsAt 0 count (now (places .entry)) (take (at .used) (now («data» .entry)))))) (checks (commandOf (argumentsAt 0 count (now (places .entry)) (take (at .used) (now («data» .entry)))))) (count - 1) seq (now (words .entry)) (now (bytes .entry)) (now (own .entry)) (now («data» .entry)) (now (out .entry)) at (now (own .exit)) (now («data» .exit)) (now (out .exit)) r ⌝ }
+{
+    let used = at.used;
+    let rows = at.rows;
+    let put = at.put;
+    let kind = kinds::kind_at(&data[..used], places, count);
+    match kind {
+        Kind::Pairs => pairs::run_pairs(
+            places,
+            count,
+            own,
+            &data[..used],
+            words,
+            bytes,
+            seq,
+            out,
+            at,
+        ),
+        Kind::Tombstones => tombstones::run_tombstones(
+            places,
+            count,
+            own,
+            &data[..used],
+            words,
+            bytes,
+            seq,
+            out,
+            at,
+        ),
+        Kind::Counter(by) => counters::run_counter(
+            places,
+            count,
+            by,
+            own,
+            data,
+            words,
+            bytes,
+            seq,
+            out,
+            at,
+        ),
+        Kind::Reads(read) => {
+            let next = answers::then_read(
+                read,
+                places,
+                count,
+                own,
+                rows,
+                &data[..used],
+                words,
+                bytes,
+                seq,
+                out,
+                put,
+            );
+            Walked {
+                rows: rows,
+                used: used,
+                conflict: at.conflict,
+                put: next,
+            }
+        }
+    }
+}
+
+// Runs the commands of a session's queue, one after another, behind the head of their replies. `used` bytes of the data are in use.
+pub fn run_queue(
+    session_words: &[u64],
+    places: &[u64],
+    own: &mut [u64],
+    data: &mut [u8],
+    used: usize,
+    words: &[u64],
+    bytes: &[u8],
+    seq: u64,
+    out: &mut [u8],
+) -> Walked
+    requires { ⌜ Queued (now «session_words») (now places) (take used (now «data»)) ⌝ }
+    requires { ⌜ Valid (now words) (now bytes) ⌝ }
+    requires { ⌜ 2048 ≤ length (now own) ⌝ }
+    requires { ⌜ used + 1280 ≤ length (now «data») ⌝ }
+    ensures { λ r. ⌜ QueueRan (advanceAll seq (versionsIn (now (words .entry)) (now (bytes .entry))) (commandsIn (now («session_words» .entry)) (now (places .entry)) (take used (now («data» .entry)))) begun) (getD (now («session_words» .entry)) 4 0) (now (own .entry)) (now («data» .entry)) (now (out .entry)) (now (own .exit)) (now («data» .exit)) (now (out .exit)) r ⌝ }
+{
+    let queued = sessions::word(session_words, 4);
+    let mut at = Walked {
+        rows: 0,
+        used: used,
+        conflict: false,
+        put: reply::put_head(out, b'*', queued as u64),
+    };
+    let mut first = 0;
+    let mut i = 0;
+    while i < queued {
+        let count = sessions::word(session_words, 37 + i);
+        let start = 2 * first;
+        let end = start + 2 * count;
+        at = run_queued(
+            &places[start..end],
+            count,
+            own,
+            data,
+            words,
+            bytes,
+            seq,
+            out,
+            at,
+        );
+        first += count;
+        i += 1;
+    }
+    at
+}

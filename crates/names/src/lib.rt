@@ -1,0 +1,334 @@
+// The table of commands (`specs/Names.antt` of `server`): a constant for each column, its last entry for an unknown name.
+use server::Name;
+ghost use mathlib.Core.Path.{_≡_};
+ghost use Prim.Native.Nat.{_<_};
+ghost use Rattle.server.specs.Names.{sameName, countRight, notAbove, controlOf};
+ghost use Rattle.names.specs.Rows.{rowAt, Looked, controlSaid};
+
+// The place of the row behind the last: a name that is no command.
+pub const UNKNOWN: usize = 21;
+
+// Bytes kept for each name.
+const WIDTH: usize = 8;
+
+// Each name in capitals, filled up with zeros.
+const TEXTS: [u8; 176] = *b"GET\0\0\0\0\0\
+    SET\0\0\0\0\0\
+    DEL\0\0\0\0\0\
+    EXISTS\0\0\
+    MGET\0\0\0\0\
+    MSET\0\0\0\0\
+    INCR\0\0\0\0\
+    INCRBY\0\0\
+    DECR\0\0\0\0\
+    PING\0\0\0\0\
+    ECHO\0\0\0\0\
+    DBSIZE\0\0\
+    KEYS\0\0\0\0\
+    SCAN\0\0\0\0\
+    RANGE\0\0\0\
+    MULTI\0\0\0\
+    EXEC\0\0\0\0\
+    DISCARD\0\
+    WATCH\0\0\0\
+    UNWATCH\0\
+    QUIT\0\0\0\0\
+    \0\0\0\0\0\0\0\0";
+
+const LENGTHS: [usize; 22] = [
+    3,
+    3,
+    3,
+    6,
+    4,
+    4,
+    4,
+    6,
+    4,
+    4,
+    4,
+    6,
+    4,
+    4,
+    5,
+    5,
+    4,
+    7,
+    5,
+    7,
+    4,
+    0,
+];
+
+const NAMES: [Name; 22] = [
+    Name::Get,
+    Name::Set,
+    Name::Del,
+    Name::Exists,
+    Name::Mget,
+    Name::Mset,
+    Name::Incr,
+    Name::Incrby,
+    Name::Decr,
+    Name::Ping,
+    Name::Echo,
+    Name::Dbsize,
+    Name::Keys,
+    Name::Scan,
+    Name::Range,
+    Name::Multi,
+    Name::Exec,
+    Name::Discard,
+    Name::Watch,
+    Name::Unwatch,
+    Name::Quit,
+    Name::Unknown,
+];
+
+// Argument counts: the least, whether there is a most, and the most; whether only even counts are right.
+const LEAST: [usize; 22] = [
+    1,
+    2,
+    1,
+    1,
+    1,
+    2,
+    1,
+    2,
+    1,
+    0,
+    1,
+    0,
+    1,
+    1,
+    2,
+    0,
+    0,
+    0,
+    1,
+    0,
+    0,
+    0,
+];
+
+const BOUNDED: [bool; 22] = [
+    true,
+    false,
+    false,
+    false,
+    false,
+    false,
+    true,
+    true,
+    true,
+    true,
+    true,
+    true,
+    true,
+    false,
+    false,
+    false,
+    false,
+    false,
+    false,
+    false,
+    false,
+    false,
+];
+
+const MOST: [usize; 22] = [
+    1,
+    0,
+    0,
+    0,
+    0,
+    0,
+    1,
+    2,
+    1,
+    1,
+    1,
+    0,
+    1,
+    0,
+    0,
+    0,
+    0,
+    0,
+    0,
+    0,
+    0,
+    0,
+];
+
+const PAIRS: [bool; 22] = [
+    false,
+    false,
+    false,
+    false,
+    false,
+    true,
+    false,
+    false,
+    false,
+    false,
+    false,
+    false,
+    false,
+    false,
+    false,
+    false,
+    false,
+    false,
+    false,
+    false,
+    false,
+    false,
+];
+
+const QUEUEABLE: [bool; 22] = [
+    true,
+    true,
+    true,
+    true,
+    true,
+    true,
+    true,
+    true,
+    true,
+    true,
+    true,
+    false,
+    false,
+    false,
+    false,
+    false,
+    false,
+    false,
+    false,
+    false,
+    false,
+    false,
+];
+
+const CONTROLS: [Control; 22] = [
+    Control::Other,
+    Control::Other,
+    Control::Other,
+    Control::Other,
+    Control::Other,
+    Control::Other,
+    Control::Other,
+    Control::Other,
+    Control::Other,
+    Control::Other,
+    Control::Other,
+    Control::Other,
+    Control::Other,
+    Control::Other,
+    Control::Other,
+    Control::Multi,
+    Control::Exec,
+    Control::Discard,
+    Control::Watch,
+    Control::Unwatch,
+    Control::Quit,
+    Control::Other,
+];
+
+// The names that steer a session, and all others.
+pub enum Control {
+    Multi,
+    Exec,
+    Discard,
+    Watch,
+    Unwatch,
+    Quit,
+    Other,
+}
+
+pub fn name_at(row: usize) -> Name
+    requires { ⌜ row < 22 ⌝ }
+    ensures { λ r. ⌜ r ≡ rowAt row .name ⌝ }
+{
+    NAMES[row]
+}
+
+pub fn queueable(row: usize) -> bool
+    requires { ⌜ row < 22 ⌝ }
+    ensures { λ r. ⌜ r ≡ rowAt row .queueable ⌝ }
+{
+    QUEUEABLE[row]
+}
+
+// Is `count` not above the most arguments of a row?
+fn not_above(row: usize, count: usize) -> bool
+    requires { ⌜ row < 22 ⌝ }
+    ensures { λ r. ⌜ r ≡ notAbove count (rowAt row .most) ⌝ }
+{
+    if BOUNDED[row] {
+        return count <= MOST[row];
+    }
+    true
+}
+
+// Is `count` a right number of arguments, the name not counted?
+pub fn count_right(row: usize, count: usize) -> bool
+    requires { ⌜ row < 22 ⌝ }
+    ensures { λ r. ⌜ r ≡ countRight (rowAt row) count ⌝ }
+{
+    if count < LEAST[row] {
+        return false;
+    }
+    if not_above(row, count) {
+        if PAIRS[row] {
+            return count % 2 == 0;
+        }
+        return true;
+    }
+    false
+}
+
+// Is `word` the name `text`, which is in capitals, in any letter case?
+pub fn same(word: &[u8], text: &[u8]) -> bool
+    ensures { λ r. ⌜ r ≡ sameName (now (word .entry)) (now (text .entry)) ⌝ }
+{
+    if word.len() != text.len() {
+        return false;
+    }
+    let mut j = 0;
+    while j < word.len() {
+        if clean::upper_byte(word[j]) != text[j] {
+            return false;
+        }
+        j += 1;
+    }
+    true
+}
+
+// The row of the command that a word names, or UNKNOWN.
+pub fn look_up(word: &[u8]) -> usize
+    ensures { λ r. ⌜ Looked (now (word .entry)) r ⌝ }
+{
+    // Locals, since a constant that a loop reads is made anew at each turn.
+    let texts = TEXTS;
+    let lengths = LENGTHS;
+    let mut row = 0;
+    while row < UNKNOWN {
+        let start = row * WIDTH;
+        let end = start + lengths[row];
+        if same(word, &texts[start..end]) {
+            return row;
+        }
+        row += 1;
+    }
+    UNKNOWN
+}
+
+// What the command of a row does to a session.
+pub fn control_at(row: usize) -> Control
+    requires { ⌜ row < 22 ⌝ }
+    ensures { λ r. ⌜ controlSaid r ≡ controlOf (rowAt row .name) ⌝ }
+{
+    CONTROLS[row]
+}

@@ -1,5 +1,0 @@
--- The laws of this crate.
-pub mod Answering
-pub mod Executing
-pub mod KindRuns
-pub mod Listed

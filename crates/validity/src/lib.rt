@@ -1,0 +1,194 @@
+// Whether one session in its own lent words and bytes is valid (layout at the head of `specs/Sessions.antt` of `server`), and all sixteen.
+use key::Order;
+ghost use mathlib.Core.Path.{_≡_};
+ghost use Prim.Native.Nat.{_+_, _-_, _<_, _≤_};
+ghost use lib.ListN.{length, getD};
+ghost use Rattle.key.specs.Bytes.{part, total};
+ghost use Rattle.key.specs.Keys.{keyBelow};
+ghost use Rattle.server.specs.Names.{rowOf};
+ghost use Rattle.server.specs.Sessions.{splitBy, ascending, allPositive, allQueueable, watchOk, queueOk, sessionOk, validSessions};
+ghost use Rattle.server.specs.Lent.{OneSession, KeysIn, QueueIn, queueSizesOk};
+
+pub const SESSIONS: usize = 16;
+
+pub const WORDS: usize = 613;
+
+pub const BYTES: usize = 10240;
+
+// Is the key from `start` to `end` below the one from `end` to `next`?
+fn below(bytes: &[u8], start: usize, end: usize, next: usize) -> bool
+    requires { ⌜ (start ≤ end) × (end ≤ next) × (next ≤ length (now bytes)) ⌝ }
+    ensures { λ r. ⌜ r ≡ keyBelow (part start (end - start) (now (bytes .entry))) (part end (next - end) (now (bytes .entry))) ⌝ }
+{
+    let order = key::compare(&bytes[start..end], &bytes[end..next]);
+    match order {
+        Order::Less => true,
+        Order::Equal => false,
+        Order::Greater => false,
+    }
+}
+
+// Are the watched keys ascending?
+fn keys_ascending(words: &[u64], bytes: &[u8], count: usize) -> bool
+    requires { ⌜ KeysIn (now words) (now bytes) count ⌝ }
+    ensures { λ r. ⌜ r ≡ ascending (splitBy (part 5 count (now (words .entry))) (part 0 2048 (now (bytes .entry)))) ⌝ }
+{
+    if count == 0 {
+        return true;
+    }
+    let mut start = 0;
+    let mut end = sessions::word(words, 5);
+    let mut i = 1;
+    while i < count {
+        let next = end + sessions::word(words, 5 + i);
+        if below(bytes, start, end, next) {
+            start = end;
+            end = next;
+            i += 1;
+        } else {
+            return false;
+        }
+    }
+    true
+}
+
+// Has each of the queued commands an argument, its name?
+fn counts_positive(words: &[u64], count: usize) -> bool
+    requires { ⌜ 37 + count ≤ length (now words) ⌝ }
+    ensures { λ r. ⌜ r ≡ allPositive (part 37 count (now (words .entry))) ⌝ }
+{
+    let mut i = 0;
+    while i < count {
+        if sessions::word(words, 37 + i) == 0 {
+            return false;
+        }
+        i += 1;
+    }
+    true
+}
+
+// May the command be queued whose name is argument `first` and starts at `start` of the queue's bytes?
+fn name_queueable(words: &[u64], bytes: &[u8], first: usize, start: usize) -> bool
+    requires { ⌜ (101 + first < length (now words)) × (2048 + start + getD (now words) (101 + first) 0 ≤ length (now bytes)) ⌝ }
+    ensures { λ r. ⌜ r ≡ rowOf (part (2048 + start) (getD (now (words .entry)) (101 + first) 0) (now (bytes .entry))) .queueable ⌝ }
+{
+    let from = 2048 + start;
+    let to = from + sessions::word(words, 101 + first);
+    let row = names::look_up(&bytes[from..to]);
+    names::queueable(row)
+}
+
+// May all the queued commands be queued?
+fn names_queueable(words: &[u64], bytes: &[u8], count: usize) -> bool
+    requires { ⌜ QueueIn (now words) (now bytes) count ⌝ }
+    ensures { λ r. ⌜ r ≡ allQueueable (splitBy (part 37 count (now (words .entry))) (splitBy (part 101 (total (part 37 count (now (words .entry)))) (now (words .entry))) (part 2048 8192 (now (bytes .entry))))) ⌝ }
+{
+    let mut first = 0;
+    let mut start = 0;
+    let mut i = 0;
+    while i < count {
+        if name_queueable(words, bytes, first, start) {
+            let size = sessions::word(words, 37 + i);
+            start += sessions::sum_within(words, 101 + first, size, 8192);
+            first += size;
+            i += 1;
+        } else {
+            return false;
+        }
+    }
+    true
+}
+
+// The watch of a session: within its limits, keys ascending, and a held snapshot not above the last sequence.
+fn watch_ok(words: &[u64], bytes: &[u8], last: u64) -> bool
+    requires { ⌜ OneSession (now words) (now bytes) ⌝ }
+    ensures { λ r. ⌜ r ≡ watchOk last (now (words .entry)) (now (bytes .entry)) ⌝ }
+{
+    let watched = sessions::word(words, 3);
+    if 32 < watched {
+        return false;
+    }
+    if 2048 < sessions::sum_within(words, 5, watched, 2048) {
+        return false;
+    }
+    if keys_ascending(words, bytes, watched) {
+        if watched == 0 {
+            return true;
+        }
+        return words[2] <= last;
+    }
+    false
+}
+
+// The sizes of the queue of a session are within their limits.
+fn queue_fits(words: &[u64]) -> bool
+    requires { ⌜ length (now words) ≡ 613 ⌝ }
+    ensures { λ r. ⌜ r ≡ queueSizesOk (now (words .entry)) ⌝ }
+{
+    let queued = sessions::word(words, 4);
+    if 64 < queued {
+        return false;
+    }
+    let arguments = sessions::sum_within(words, 37, queued, 512);
+    if 512 < arguments {
+        return false;
+    }
+    if 8192 < sessions::sum_within(words, 101, arguments, 8192) {
+        return false;
+    }
+    counts_positive(words, queued)
+}
+
+// The queue of a session: within its limits, each command one of the eleven, and none outside MULTI.
+fn queue_ok(words: &[u64], bytes: &[u8]) -> bool
+    requires { ⌜ OneSession (now words) (now bytes) ⌝ }
+    ensures { λ r. ⌜ r ≡ queueOk (now (words .entry)) (now (bytes .entry)) ⌝ }
+{
+    if queue_fits(words) {
+        let queued = sessions::word(words, 4);
+        if names_queueable(words, bytes, queued) {
+            if words[0] == 0 {
+                return queued == 0;
+            }
+            return true;
+        }
+        return false;
+    }
+    false
+}
+
+// Is one session valid?
+pub fn session_ok(words: &[u64], bytes: &[u8], last: u64) -> bool
+    requires { ⌜ OneSession (now words) (now bytes) ⌝ }
+    ensures { λ r. ⌜ r ≡ sessionOk last (now (words .entry)) (now (bytes .entry)) ⌝ }
+{
+    if watch_ok(words, bytes, last) {
+        return queue_ok(words, bytes);
+    }
+    false
+}
+
+// Are all sixteen sessions valid, and the buffers long enough for them?
+pub fn sessions_ok(words: &[u64], bytes: &[u8], last: u64) -> bool
+    ensures { λ r. ⌜ r ≡ validSessions last (now (words .entry)) (now (bytes .entry)) ⌝ }
+{
+    if words.len() < SESSIONS * WORDS {
+        return false;
+    }
+    if bytes.len() < SESSIONS * BYTES {
+        return false;
+    }
+    let mut i = 0;
+    while i < SESSIONS {
+        let w = i * WORDS;
+        let b = i * BYTES;
+        let w_end = w + WORDS;
+        let b_end = b + BYTES;
+        if session_ok(&words[w..w_end], &bytes[b..b_end], last) {
+            i += 1;
+        } else {
+            return false;
+        }
+    }
+    true
+}
