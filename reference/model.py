@@ -341,7 +341,6 @@ SYNTAX = err(b"syntax error")
 class Effect(NamedTuple):
     reply: tuple
     writes: list = []
-    checks: list = []
 
 
 def right_count(name, n):
@@ -369,7 +368,7 @@ def arity(name):
 
 
 def execute(args, read, table):
-    """What a command answers, writes and checks; `read` gives a key's value, `table` the table."""
+    """What a command answers and writes; `read` gives a key's value, `table` the table."""
     name, a = args[0].upper(), args[1:]
     right = right_count(name, len(a))
     if right is None:
@@ -414,10 +413,10 @@ def count(key, by, read):
     text = read(key)
     held = 0 if text is None else whole_number(text)
     if held is None:
-        return Effect(NOT_INTEGER, [], [key])
+        return Effect(NOT_INTEGER)
     if not -(2**63) <= held + by < 2**63:
-        return Effect(err(b"increment or decrement would overflow"), [], [key])
-    return Effect(integer(held + by), [(key, decimal(held + by))], [key])
+        return Effect(err(b"increment or decrement would overflow"), [])
+    return Effect(integer(held + by), [(key, decimal(held + by))])
 
 
 def scan(a, table):
@@ -464,12 +463,11 @@ def range_of(a, table):
 class Session(NamedTuple):
     queue: Optional[tuple] = None  # None outside MULTI
     failed: bool = False
-    snapshot: Optional[int] = None  # None if nothing is watched
-    watched: frozenset = frozenset()
+    watched: tuple = ()  # keys, each with the last sequence at its first WATCH
 
 
 CLEAR = Session()
-UNWATCHED = {"snapshot": None, "watched": frozenset()}
+UNWATCHED = {"watched": ()}
 
 
 class Step(NamedTuple):
@@ -545,11 +543,10 @@ class Registry:
     def watch(self, session, args):
         if len(args) < 2:
             return Step(arity(b"WATCH"), session)
-        watched = session.watched | set(args[1:])
+        watched = {key: self.store.last for key in args[1:]} | dict(session.watched)
         if len(watched) > WATCH_KEYS or sum(map(len, watched)) > WATCH_BYTES:
             raise Number(5)
-        snapshot = self.store.last if session.snapshot is None else session.snapshot
-        return Step(OK, session._replace(snapshot=snapshot, watched=watched))
+        return Step(OK, session._replace(watched=tuple(sorted(watched.items()))))
 
     def inside(self, session, name, args):
         if name == b"EXEC":
@@ -572,16 +569,15 @@ class Registry:
     def exec(self, session):
         if session.failed:
             return Step(error(b"EXECABORT Transaction discarded because of previous errors."), CLEAR)
-        snapshot = self.store.last if session.snapshot is None else session.snapshot
-        own, checked, replies = {}, set(session.watched), []
+        if any((self.store.newest(key) or 0) > sequence for key, sequence in session.watched):
+            return Step(array(None), CLEAR)
+        own, replies = {}, []
         for args in session.queue:
-            effect = execute(args, lambda key: own[key] if key in own else self.store.read(key, snapshot), None)
+            effect = execute(args, lambda key: own[key] if key in own else self.store.read(key, self.store.last), None)
             own.update(effect.writes)
-            checked.update(effect.checks)
             replies.append(effect.reply)
         writes = sorted(own.items())
-        if not self.must_fit(Member(snapshot, writes, sorted(checked))):
-            return Step(array(None), CLEAR)
+        self.must_fit(Member(None, writes, []))
         return Step(array(replies), CLEAR, writes)
 
     def must_fit(self, member):
@@ -631,8 +627,8 @@ class Registry:
         arguments = [argument for command in session.queue or () for argument in command]
         return (
             len(session.watched) > WATCH_KEYS
-            or sum(map(len, session.watched)) > WATCH_BYTES
-            or (bool(session.watched) and session.snapshot > self.store.last)
+            or sum(len(key) for key, _ in session.watched) > WATCH_BYTES
+            or any(sequence > self.store.last for _, sequence in session.watched)
             or len(session.queue or ()) > QUEUE_COMMANDS
             or len(arguments) > QUEUE_ARGUMENTS
             or sum(map(len, arguments)) > QUEUE_BYTES

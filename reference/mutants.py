@@ -17,13 +17,10 @@ SOURCE = os.path.join(os.path.dirname(os.path.abspath(__file__)), "model.py")
 
 # A name, the text in model.py (it stands there once), what takes its place, and the mode that must show it
 PLANTED = [
-    ("only watched keys are checked", "for key in [k for k, _ in member.writes] + list(member.checks):", "for key in list(member.checks):", "mixed"),
-    ("counters are not checked", "checked.update(effect.checks)", "pass", "mixed"),
-    ("checks of a failed counter are dropped", "return Effect(NOT_INTEGER, [], [key])", "return Effect(NOT_INTEGER)", "mixed"),
+    ("only checked keys are checked", "for key in [k for k, _ in member.writes] + list(member.checks):", "for key in list(member.checks):", "groups"),
     ("tombstones are dropped from the newest", "(s for k, s, _ in self.versions if k == key)", "(s for k, s, v in self.versions if k == key and v is not None)", "mixed"),
-    ("a second WATCH renews the snapshot", "snapshot = self.store.last if session.snapshot is None else session.snapshot\n        return Step(OK", "snapshot = self.store.last\n        return Step(OK", "mixed"),
-    ("EXEC reads at the last sequence", "snapshot = self.store.last if session.snapshot is None else session.snapshot\n        own", "snapshot = self.store.last\n        own", "mixed"),
-    ("EXEC does not read its own writes", "own[key] if key in own else self.store.read(key, snapshot)", "self.store.read(key, snapshot)", "mixed"),
+    ("a second WATCH renews the sequence of a key", "{key: self.store.last for key in args[1:]} | dict(session.watched)", "dict(session.watched) | {key: self.store.last for key in args[1:]}", "mixed"),
+    ("EXEC does not read its own writes", "own[key] if key in own else self.store.read(key, self.store.last)", "self.store.read(key, self.store.last)", "mixed"),
     ("MULTI drops the watch", "session._replace(queue=(), failed=False)", "Session(queue=())", "mixed"),
     ("EXEC without MULTI drops the watch", "return Step(err(name + b\" without MULTI\"), session)", "return Step(err(name + b\" without MULTI\"), CLEAR)", "mixed"),
     ("DISCARD keeps the watch", "if name == b\"DISCARD\":\n            return Step(OK, CLEAR)", "if name == b\"DISCARD\":\n            return Step(OK, session._replace(queue=None, failed=False))", "mixed"),

@@ -99,7 +99,7 @@ same("names counted", last_reply(b"MULTI\n", b"DEL" + b" k" * 511 + b"\n", b"PIN
 same("4, a name not queued", last_reply(b"MULTI\n", *[b"PING\n"] * 64, b"FOO\n"), b"-ERR 'FOO' can't be used inside MULTI\r\n")
 same("watched twice", last_reply(b"WATCH " + b"k" * 1025 + b" " + b"k" * 1025 + b"\n"), b"+OK\r\n")
 many = b"WATCH" + b"".join(b" %d" % i for i in range(33)) + b"\n"
-same("5 fixes no snapshot", replies(many, b"SET a 1\n", b"WATCH a\n", b"MULTI\n", b"EXEC\n")[::4], [b"!5", b"*0\r\n"])
+same("5 watches no key", replies(many, b"SET a 1\n", b"WATCH a\n", b"MULTI\n", b"EXEC\n")[::4], [b"!5", b"*0\r\n"])
 same("6, repeated keys", last_reply(b"MSET a 1 a 2\n", r=registry(versions=1)), b"!6")
 same("6, repeated in EXEC", last_reply(b"MULTI\n", b"SET a 1\n", b"SET a 2\n", b"EXEC\n", r=registry(versions=1)), b"*2\r\n+OK\r\n+OK\r\n")
 same("MSET half", last_reply(b"MSET a 1 b 2\n", b"GET a\n", r=registry(versions=1)), b"$-1\r\n")
@@ -142,9 +142,8 @@ session = lambda **k: model.Session(**k)
 for name, state, wanted in (
     ("a queue that holds another name", session(queue=((b"FOO",),)), 9),
     ("an empty command", session(queue=((),)), 9),
-    ("33 watched keys", session(snapshot=0, watched=frozenset(b"%d" % i for i in range(33))), 9),
-    ("a snapshot above the last", session(snapshot=1, watched=frozenset([b"a"])), 9),
-    ("a snapshot without watch", session(snapshot=1), 0),
+    ("33 watched keys", session(watched=tuple((b"%d" % i, 0) for i in range(33))), 9),
+    ("a sequence of a watched key above the last", session(watched=((b"a", 1),)), 9),
     ("a mark outside MULTI", session(failed=True), 0),
 ):
     r = registry()

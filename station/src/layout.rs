@@ -2,8 +2,9 @@
 use crate::core::{HEADER_WORDS, SESSIONS, SESSION_BYTES, SESSION_WORDS, VERSION_WORDS};
 
 pub const WATCH_LENGTHS: usize = 5;
-pub const ARGUMENT_COUNTS: usize = 37;
-pub const ARGUMENT_LENGTHS: usize = 101;
+pub const WATCH_SEQUENCES: usize = 37;
+pub const ARGUMENT_COUNTS: usize = 69;
+pub const ARGUMENT_LENGTHS: usize = 133;
 pub const WATCH_BYTES: usize = 2048;
 pub const QUEUE_BYTES: usize = 8192;
 pub const QUEUEABLE: [&[u8]; 11] = [b"GET", b"SET", b"DEL", b"EXISTS", b"MGET", b"MSET", b"INCR", b"INCRBY", b"DECR", b"PING", b"ECHO"];
@@ -56,7 +57,7 @@ fn watch_ok(words: &[u64], bytes: &[u8], last: u64) -> bool {
         return false;
     }
     let Some(keys) = pieces(&words[WATCH_LENGTHS..WATCH_LENGTHS + count as usize], &bytes[..WATCH_BYTES]) else { return false };
-    keys.windows(2).all(|w| w[0] < w[1]) && (count == 0 || words[2] <= last)
+    keys.windows(2).all(|w| w[0] < w[1]) && words[WATCH_SEQUENCES..WATCH_SEQUENCES + count as usize].iter().all(|&n| n <= last)
 }
 
 fn queue_ok(words: &[u64], bytes: &[u8]) -> bool {

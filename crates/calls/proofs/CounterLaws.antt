@@ -23,7 +23,7 @@ use Rattle.memtable.specs.Table.{Value, Entry, Reader, Write, Table, keysOf, fi
 use Rattle.memtable.proofs.TableLaws.{Ascending, find-writeAll, ascending-writeAll, writeAll-append}
 use Rattle.batch.specs.Group.{anyKey, among}
 use Rattle.server.specs.Command.{Command, GET, SET, DEL, EXISTS, MGET, MSET, COUNT, FIXED, tombstone, put, held, summed, raised, run}
-use Rattle.calls.specs.Posting.{Item, alone, listed, exec, member, postQueue, post, postAll, covered, AsPosted, AllAsPosted, AllHold}
+use Rattle.calls.specs.Posting.{Item, alone, listed, exec, member, postQueue, postReplies, post, postAll, AllHold}
 use Rattle.calls.specs.Verdicts.{setKeys}
 use Rattle.calls.specs.Demand3.{itemsOf, isInteger, orZero, increment, sumQueue, sum, NotSet, OnlyCounted, textOf, CounterClaim, increments, SumOf, CounterReplies}
 use Rattle.calls.proofs.Posting.{claim}
@@ -116,7 +116,7 @@ module _ (k : Key) where
   unfolding post
   ascending-post (alone c b) t s = ascending-writeAll (run (find t) c .1) t s
   ascending-post (listed l b) t s = s
-  ascending-post (exec watched q b) t s = ascending-writeAll (postQueue t q) t s
+  ascending-post (exec q b) t s = ascending-writeAll (postQueue t q) t s
   ascending-post (member ws) t s = ascending-writeAll ws t s
 
   history-sum : (xs : List Item) (t : Table) (n : Option ℤ) → Ascending t → OnlyCounted k xs → Counts k t n → Counts k (postAll xs t) (sum k xs t n)
@@ -125,8 +125,8 @@ module _ (k : Key) where
   history-sum (alone x b ∷ xs) t n s e c =
       history-sum xs (post (alone x b) t) (increment k x (run (find t) x .0) n) (ascending-post (alone x b) t s) (e .1) (command-sum x t n s c (e .0))
   history-sum (listed l b ∷ xs) t n s e c = history-sum xs t n s e c
-  history-sum (exec watched q b ∷ xs) t n s e c =
-      history-sum xs (post (exec watched q b) t) (sumQueue k q t n) (ascending-post (exec watched q b) t s) (e .1) (queue-sum q t n s (e .0) c)
+  history-sum (exec q b ∷ xs) t n s e c =
+      history-sum xs (post (exec q b) t) (sumQueue k q t n) (ascending-post (exec q b) t s) (e .1) (queue-sum q t n s (e .0) c)
   history-sum (member ws ∷ xs) t n s e c =
       history-sum xs (post (member ws) t) n (ascending-post (member ws) t s) (e .1) (other-keys ws t n s c (e .0))
 
@@ -137,45 +137,28 @@ counters cs l o k e =
     let d = claim cs l o in
     ap (λ (t : Table). find t k) (d .tables) ∙ history-sum k (itemsOf cs l) [] none tt e (record { holds = refl; small = tt }) .holds
 
--- THE REPLIES THEMSELVES give that sum: a counter command's is as posted, and no other counts.
+-- THE REPLIES THEMSELVES give that sum.
 module _ (k : Key) where
-  reply-counts : (cov : List Key) (r : Reader) (c : Command) (p : Reply) (n : Option ℤ) → AsPosted cov r c p → increment k c p n ≡ increment k c (run r c .0) n
-  unfolding increment
-  reply-counts cov r (GET j) p n h = refl
-  reply-counts cov r (SET j v) p n h = refl
-  reply-counts cov r (DEL ks) p n h = refl
-  reply-counts cov r (EXISTS ks) p n h = refl
-  reply-counts cov r (MGET ks) p n h = refl
-  reply-counts cov r (MSET es) p n h = refl
-  reply-counts cov r (COUNT j by) p n h = ap (λ (x : Reply). increment k (COUNT j by) x n) h
-  reply-counts cov r (FIXED x) p n h = refl
-
   -- one reply for each command, and their sum
   record Counted (q : List Command) (ps : List Reply) (t : Table) (n : Option ℤ) : Type 0 where
     each : length ps ≡ length q
     sums : increments k q ps n ≡ sumQueue k q t n
 
-  queue-counts : (cov : List Key) (q : List Command) (ps : List Reply) (t : Table) (n : Option ℤ) → AllAsPosted cov t q ps → Counted q ps t n
-  unfolding increments sumQueue
-  queue-counts cov [] [] t n h = record { each = refl; sums = refl }
-  queue-counts cov [] (p ∷ ps) t n h = absurd h
-  queue-counts cov (c ∷ q) [] t n h = absurd h
-  queue-counts cov (c ∷ q) (p ∷ ps) t n h =
-      let rest = queue-counts cov q ps (writeAll (run (find t) c .1) t) (increment k c p n) (h .1) in
-      record {
-        each = ap suc (rest .each);
-        sums = rest .sums ∙ ap (sumQueue k q (writeAll (run (find t) c .1) t)) (reply-counts cov (find t) c p n (h .0));
-      }
+  queue-counts : (q : List Command) (t : Table) (n : Option ℤ) → Counted q (postReplies t q) t n
+  unfolding increments sumQueue postReplies
+  queue-counts [] t n = record { each = refl; sums = refl }
+  queue-counts (c ∷ q) t n =
+      let rest = queue-counts q (writeAll (run (find t) c .1) t) (increment k c (run (find t) c .0) n) in
+      record { each = ap suc (rest .each); sums = rest .sums }
 
   replies-sum : (xs : List Item) (t : Table) (n : Option ℤ) → AllHold xs t → SumOf k xs n (sum k xs t n)
   unfolding sum sumQueue post
   replies-sum [] t n h = refl
   replies-sum (alone c b ∷ xs) t n h = (run (find t) c .0, h .0, replies-sum xs (post (alone c b) t) (increment k c (run (find t) c .0) n) (h .1))
   replies-sum (listed l b ∷ xs) t n h = replies-sum xs t n (h .1)
-  replies-sum (exec watched q b ∷ xs) t n h =
-      let ps = h .0 .0 in
-      let c = queue-counts (covered watched (postQueue t q) q) q ps t n (h .0 .2) in
-      (ps, h .0 .1, c .each, rw (c .sums) (replies-sum xs (post (exec watched q b) t) (sumQueue k q t n) (h .1)))
+  replies-sum (exec q b ∷ xs) t n h =
+      let c = queue-counts q t n in
+      (postReplies t q, h .0, c .each, rw (c .sums) (replies-sum xs (post (exec q b) t) (sumQueue k q t n) (h .1)))
   replies-sum (member ws ∷ xs) t n h = replies-sum xs (post (member ws) t) n (h .1)
 
 pub counter-replies : CounterReplies

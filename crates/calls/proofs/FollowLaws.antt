@@ -1,5 +1,5 @@
 -- Each request of a session is followed by posting: the table, what posting keeps of the session, and the reply's bytes.
-use Prim.Native.Nat.{ℕ, _<_}
+use Prim.Native.Nat.{ℕ}
 use native.Mathlib.Omega.{arith}
 use mathlib.Core.List.{List, [], _∷_, _++_, map}
 use mathlib.Core.Bool.{Bool, true, false, cond, _||_, false≢true}
@@ -8,38 +8,30 @@ use mathlib.Core.Path.{_≡_, refl, sym, ap, _∙_, fun-ext, subst}
 use lib.ListN.{length}
 use Rattle.key.specs.Bytes.{Bytes}
 use Rattle.key.specs.Keys.{Key, sameKey}
-use Rattle.key.proofs.Keys.{same-refl}
-use Rattle.resp.specs.Reply.{Error, NilArray, array, ok, encode}
+use Rattle.resp.specs.Reply.{Reply, Error, NilArray, array, ok, encode}
 use Rattle.memtable.specs.Table.{Write, Table, keysOf, find, lastWrites}
 use Rattle.memtable.specs.Versions.{Store, readAt, newest, moved, table, commit}
 use Rattle.memtable.proofs.TableLaws.{writeAll-lastWrites}
-use Rattle.memtable.proofs.VersionLaws.{ascending-table, read-last, read-unmoved, table-commit, Sound}
+use Rattle.memtable.proofs.VersionLaws.{ascending-table, read-last, table-commit, Sound}
 use Rattle.batch.specs.declared.Verdict.{Verdict}
 use Rattle.batch.specs.declared.Verdict.the-variants.{Accepted, Conflict, NoRoom, NoSequence, NotTaken}
 use Rattle.batch.specs.Group.{plain, anyKey, among, verdictAlone}
 use Rattle.batch.proofs.KeyLists.{among-append, any-last-all, among-last}
 use Rattle.server.specs.Names.{Args, Row, rowOf, nameWord, arguments, countRight, arity, Control, MULTI, EXEC, DISCARD, WATCH, UNWATCH, QUIT, other, controlOf}
 use Rattle.server.specs.Command.{Command, Listing, Executed, runs, lists, Effect, executedOf, commandOf, run, runQueue}
-use Rattle.server.specs.Session.{Watching, Session, clear, Result, number, reply, Done, says, returns, committed, direct, addKeys, watchOr, watchFits, watching, outsideMulti, queueFits, queuedReply, marked, enqueue, notQueueable, execAbort, readSequence, watchedKeys, pendingExec, execute, insideMulti, respondBy, respond}
-use Rattle.server.proofs.CommandLaws.{Agree}
+use Rattle.server.specs.Session.{Watching, watchedKeys, Session, clear, Result, number, reply, Done, says, returns, committed, direct, addKeys, watchFits, watching, outsideMulti, queueFits, queuedReply, marked, enqueue, notQueueable, execAbort, execute, insideMulti, respondBy, respond}
 use Rattle.server.proofs.WatchLaws.{among-adds}
-use Rattle.server.proofs.SessionLaws.{WatchHolds, SessionSound, ranBy, memberBy, exec-calm, ends, execute-failed, execute-ends}
-use Rattle.calls.specs.Posting.{isReply, Item, listed, exec, Client, closed, Turn, quietly, onlyIf, turnExec, turnBy, postQueue, post, postAll, covered, AllHold, checksOf}
+use Rattle.server.proofs.SessionLaws.{SessionSound, ranBy, writesBy, ends, execute-failed, execute-ends}
+use Rattle.calls.specs.Posting.{isReply, Item, listed, exec, Client, closed, Turn, quietly, onlyIf, turnExec, turnBy, postQueue, post, postAll, AllHold}
 use Rattle.calls.specs.Verdicts.{itemKeys, writtenIn}
 use Rattle.calls.proofs.MovedLaws.{commit-moves, commit-keeps, no-keys, one-item, unwritten}
 use Rattle.calls.proofs.ReplyLaws.{ok-told, queued-told, error-not-ok, error-not-queued, abort-told, nil-array-told, nil-array-no-array, error-no-array, array-told}
-use Rattle.calls.proofs.CommandLaws.{all-written, all-checked, covered-held, queue-writes, queue-as-posted, queue-replies, queue-checks}
+use Rattle.calls.proofs.CommandLaws.{queue-writes, queue-replies}
 
 -- what posting keeps of a session: its queue, and the same watched keys, though in another order
 pub record Mirrors (d : Client) (s : Session) : Type 0 where
   pub queue : d .queue ≡ s .queue
   pub watched : (k : Key) → among (d .watched) k ≡ among (watchedKeys (s .watch)) k
-
--- some key is among keys of which there are some
-pub some-among : {A : Type 0} (ks : List Key) → 0 < length ks → ((k : Key) → among [] k ≡ among ks k) → A
-unfolding anyKey
-some-among [] n h = absurd (omega arith)
-some-among (k ∷ ks) n h = absurd (false≢true (h k ∙ rw (same-refl k)))
 
 pub closed-clear : Mirrors closed clear
 closed-clear = record { queue = refl; watched = λ k. refl }
@@ -101,27 +93,22 @@ module _ (st : Store) (s : Session) (d : Client) (sound : Sound st) (good : Sess
       go NoSequence = unfold committed in tt
       go NotTaken = unfold committed in tt
 
-  -- the keys of a watch, and those that were added
-  watched-more : (ks : List Key) (w : Option Watching) → ((k : Key) → among (d .watched) k ≡ among (watchedKeys w) k)
-      → (k : Key) → among (d .watched ++ ks) k ≡ among (addKeys ks (watchOr (st .last) w .keys)) k
-  watched-more ks none h k = among-append (d .watched) ks k ∙ ap (λ (b : Bool). b || among ks k) (h k) ∙ sym (among-adds ks [] k)
-  watched-more ks (some w) h k = among-append (d .watched) ks k ∙ ap (λ (b : Bool). b || among ks k) (h k) ∙ sym (among-adds ks (w .keys) k)
-
   watching-follows : (a : Args) → FollowedBy st d WATCH none a (watching (arguments a) st s) (watching (arguments a) st s .result)
   unfolding watching turnBy
-  watching-follows a = go (watchFits js)
+  watching-follows a = go (watchFits (watchedKeys w))
     where
       w : Watching
-      w = watchOr (st .last) (s .watch)
-
-      js : List Key
-      js = addKeys (arguments a) (w .keys)
+      w = addKeys (st .last) (arguments a) (s .watch)
 
       after : Done
-      after = says ok st (record { queue = s .queue; failed = s .failed; watch = some (record { snapshot = w .snapshot; keys = js }) })
+      after = says ok st (record { queue = s .queue; failed = s .failed; watch = w })
+
+      -- the keys of the watch, and those that were added
+      more : (k : Key) → among (d .watched ++ arguments a) k ≡ among (watchedKeys w) k
+      more k = among-append (d .watched) (arguments a) k ∙ ap (λ (b : Bool). b || among (arguments a) k) (m .watched k) ∙ sym (among-adds (st .last) (arguments a) (s .watch) k)
 
       go : (b : Bool) → FollowedBy st d WATCH none a (cond b after (returns 5 st s)) (cond b after (returns 5 st s) .result)
-      go true = is-ok _ _ (record { queue = m .queue; watched = watched-more (arguments a) (s .watch) (m .watched) })
+      go true = is-ok _ _ (record { queue = m .queue; watched = more })
       go false = tt
 
   outside-follows : (a : Args) (c : Control) (r : Row) → FollowedBy st d c none a (outsideMulti c r a st s) (outsideMulti c r a st s .result)
@@ -151,47 +138,30 @@ module _ (st : Store) (s : Session) (d : Client) (sound : Sound st) (good : Sess
       go false = tt
 
   -- an accepted EXEC
-  queue-key : (watched : List Key) (b : Bytes) (k : Key) (ws : List Write) (t : Table) (cs : List Command) → ws ≡ postQueue t cs → among (itemKeys (exec watched cs b) t) k ≡ true → among (keysOf ws) k ≡ true
+  queue-key : (b : Bytes) (k : Key) (ws : List Write) (t : Table) (cs : List Command) → ws ≡ postQueue t cs → among (itemKeys (exec cs b) t) k ≡ true → among (keysOf ws) k ≡ true
   unfolding itemKeys
-  queue-key watched b k ws t cs e h = rw e h
+  queue-key b k ws t cs e h = rw e h
 
-  queue-other : (watched : List Key) (b : Bytes) (k : Key) (ws : List Write) (t : Table) (cs : List Command) → ws ≡ postQueue t cs → among (itemKeys (exec watched cs b) t) k ≡ false → among (keysOf ws) k ≡ false
+  queue-other : (b : Bytes) (k : Key) (ws : List Write) (t : Table) (cs : List Command) → ws ≡ postQueue t cs → among (itemKeys (exec cs b) t) k ≡ false → among (keysOf ws) k ≡ false
   unfolding itemKeys
-  queue-other watched b k ws t cs e h = rw e h
+  queue-other b k ws t cs e h = rw e h
 
-  -- an EXEC that watches nothing reads the table
-  unwatched : d .watched ≡ [] → readAt (readSequence st (s .watch)) (st .versions) ≡ find (table (st .versions))
-  unwatched e = go (s .watch) (good .watch) (λ k. ap (λ (ks : List Key). among ks k) (sym e) ∙ m .watched k)
-    where
-      go : (w : Option Watching) → WatchHolds (st .last) w → ((k : Key) → among [] k ≡ among (watchedKeys w) k) → readAt (readSequence st w) (st .versions) ≡ find (table (st .versions))
-      go none h same = read-now st sound
-      go (some w) h same = some-among (w .keys) (h .some-key) same
-
-  exec-follows : (q : List Args) → verdictAlone st (memberBy q st s) ≡ Accepted
-      → Follows st (commit (memberBy q st s .writes) st) clear (turnExec q (encode (array (ranBy q st s .replies))) d)
-  unfolding turnExec ranBy memberBy pendingExec postAll post
-  exec-follows q e =
-      let start = readSequence st (s .watch) in
-      let r = readAt start (st .versions) in
+  exec-follows : (q : List Args) → Follows st (commit (writesBy q st) st) clear (turnExec q (encode (array (ranBy q st .replies))) d)
+  unfolding turnExec ranBy writesBy postAll post
+  exec-follows q =
+      let r = readAt (st .last) (st .versions) in
       let cs = map commandOf q in
       let t = table (st .versions) in
       let ws = runQueue r cs .writes in
-      let cov = covered (d .watched) ws cs in
       let up = ascending-table (st .versions) in
-      let checks : runQueue r cs .checked ≡ checksOf cs = queue-checks cs r in
-      let h : Agree cov r (find t) =
-      λ k c. read-unmoved start (st .last) (st .versions) (sound .seqs) k
-      (exec-calm q st s e k (rw checks (covered-held (d .watched) (watchedKeys (s .watch)) ws cs (m .watched) k c)))
-      ∙ read-last (st .last) (st .versions) (sound .seqs) k in
-      let checked = all-checked (d .watched) ws cs in
-      let same : ws ≡ postQueue t cs = queue-writes cov cs r t up h checked in
+      let same : ws ≡ postQueue t cs = queue-writes cs r t up (read-now st sound) in
       rw (array-told (runQueue r cs .replies)) (record {
         tables = rw (← same) (sym (writeAll-lastWrites ws t up)) ∙ sym (table-commit (lastWrites [] ws) st (sound .seqs));
         client = closed-clear;
-        holds = ((runQueue r cs .replies, refl, rw (← same) (queue-as-posted cov cs r t up h (all-written (d .watched) ws cs) checked), λ e. queue-replies cs r t up (unwatched e)), tt);
+        holds = (ap (λ (ps : List Reply). encode (array ps)) (queue-replies cs r t up (read-now st sound)), tt);
         quiet = λ z. some-item z;
-        moves = λ k h. one-item _ t k h (λ x. commit-moves (lastWrites [] ws) st k (among-last ws [] k (rw (queue-key _ _ k ws t cs same x))));
-        keeps = λ k h. commit-keeps (lastWrites [] ws) st k (any-last-all (λ j. sameKey j k) ws ∙ queue-other _ _ k ws t cs same (unwritten _ [] t k h .0));
+        moves = λ k h. one-item _ t k h (λ x. commit-moves (lastWrites [] ws) st k (among-last ws [] k (rw (queue-key _ k ws t cs same x))));
+        keeps = λ k h. commit-keeps (lastWrites [] ws) st k (any-last-all (λ j. sameKey j k) ws ∙ queue-other _ k ws t cs same (unwritten _ [] t k h .0));
       })
 
   execute-follows : (q : List Args) (a : Args) → FollowedBy st d EXEC (some q) a (execute q st s) (execute q st s .result)
@@ -208,17 +178,16 @@ module _ (st : Store) (s : Session) (d : Client) (sound : Sound st) (good : Sess
           last true = still st clear closed closed-clear
           last false = still st clear closed closed-clear
 
-      by : (v : Verdict) → verdictAlone st (memberBy q st s) ≡ v
-          → FollowedBy st d EXEC (some q) a (ends v (ranBy q st s) (memberBy q st s) st s) (ends v (ranBy q st s) (memberBy q st s) st s .result)
-      by Accepted e = unfold ends in exec-follows q e
-      by Conflict e = unfold ends in nil
-      by NoRoom e = unfold ends in tt
-      by NoSequence e = unfold ends in tt
-      by NotTaken e = unfold ends in nil
+      by : (v : Verdict) → FollowedBy st d EXEC (some q) a (ends v (ranBy q st) (writesBy q st) st s) (ends v (ranBy q st) (writesBy q st) st s .result)
+      by Accepted = unfold ends in exec-follows q
+      by Conflict = unfold ends in nil
+      by NoRoom = unfold ends in tt
+      by NoSequence = unfold ends in tt
+      by NotTaken = unfold ends in nil
 
       go : (f : Bool) → s .failed ≡ f → FollowedBy st d EXEC (some q) a (execute q st s) (execute q st s .result)
       go true p = rw (execute-failed q st s p) abort
-      go false p = rw (execute-ends q st s p) (by _ refl)
+      go false p = rw (execute-ends q st s p) (by _)
 
   inside-follows : (a : Args) (q : List Args) (c : Control) (r : Row) → d .queue ≡ some q → FollowedBy st d c (some q) a (insideMulti c q r a st s) (insideMulti c q r a st s .result)
   unfolding insideMulti turnBy

@@ -19,8 +19,8 @@ use Rattle.batch.specs.declared.Verdict.the-variants.{Accepted, Conflict, NoRoo
 use Rattle.batch.specs.Group.{plain, verdictByte, isAccepted, verdictAlone}
 use Rattle.server.specs.Names.{Args, Row, rowOf, nameWord, arguments, countRight, arity, Control, MULTI, EXEC, DISCARD, WATCH, UNWATCH, QUIT, other, controlOf}
 use Rattle.server.specs.Command.{Executed, runs, lists, Effect, executedOf, run}
-use Rattle.server.specs.Session.{Watching, Session, clear, Result, number, reply, Done, says, returns, committed, direct, addKeys, watchOr, watchFits, watching, outsideMulti, queueFits, queuedReply, marked, enqueue, notQueueable, execute, insideMulti, respondBy, respond}
-use Rattle.server.proofs.SessionLaws.{SessionSound, Refuses, Kept, respond-kept, ranBy, memberBy, ends, execute-failed, execute-ends}
+use Rattle.server.specs.Session.{Watching, watchedKeys, Session, clear, Result, number, reply, Done, says, returns, committed, direct, addKeys, watchFits, watching, outsideMulti, queueFits, queuedReply, marked, enqueue, notQueueable, execute, insideMulti, respondBy, respond}
+use Rattle.server.proofs.SessionLaws.{SessionSound, Refuses, Kept, respond-kept, ranBy, writesBy, ends, execute-failed, execute-ends}
 use Rattle.server.specs.Finish.{Served, silent, fitted, finishBy, finish}
 use Rattle.calls.specs.Serve.{protocolError, serveReading, serve, answered}
 use Rattle.calls.specs.Posting.{broken, asks, askedBy, isReply}
@@ -50,16 +50,13 @@ module _ (st : Store) (s : Session) (sound : Sound st) (good : SessionSound (st 
 
   watching-marks : (ks : List Key) → MarkedAs (watching ks st s .session) false
   unfolding watching
-  watching-marks ks = go (watchFits js)
+  watching-marks ks = go (watchFits (watchedKeys w))
     where
       w : Watching
-      w = watchOr (st .last) (s .watch)
-
-      js : List Key
-      js = addKeys ks (w .keys)
+      w = addKeys (st .last) ks (s .watch)
 
       after : Session
-      after = record { queue = s .queue; failed = s .failed; watch = some (record { snapshot = w .snapshot; keys = js }) }
+      after = record { queue = s .queue; failed = s .failed; watch = w }
 
       go : (b : Bool) → MarkedAs (cond {A = Done} b (says ok st after) (returns 5 st s) .session) false
       go true = stays after refl refl false refl
@@ -84,7 +81,7 @@ module _ (st : Store) (s : Session) (sound : Sound st) (good : SessionSound (st 
       go : (b : Bool) → MarkedAs (cond {A = Done} b (watching (arguments a) st s) (says (arity r) st s) .session) false
       go true = watching-marks (arguments a)
       go false = stays s refl refl false refl
-  outside-marks a UNWATCH r n = stays (record { queue = s .queue; failed = s .failed; watch = none }) refl refl false refl
+  outside-marks a UNWATCH r n = stays (record { queue = s .queue; failed = s .failed; watch = [] }) refl refl false refl
   outside-marks a QUIT r n = refl
   outside-marks a other r n = direct-marks (executedOf a)
 
@@ -93,7 +90,7 @@ module _ (st : Store) (s : Session) (sound : Sound st) (good : SessionSound (st 
   unfolding markedAfter
   execute-marks q n = go (s .failed) refl
     where
-      by : (v : Verdict) → Marked EXEC true (ends v (ranBy q st s) (memberBy q st s) st s)
+      by : (v : Verdict) → Marked EXEC true (ends v (ranBy q st) (writesBy q st) st s)
       by Accepted = unfold ends in refl
       by Conflict = unfold ends in refl
       by NoRoom = unfold ends in stays s refl refl false refl

@@ -14,7 +14,7 @@ use Rattle.memtable.specs.Layout.{storeIn, buffersHold, validStore, leaveWords,
 use Rattle.memtable.proofs.VersionLaws.{Sound}
 use Rattle.memtable.proofs.LayoutLaws.{store-back, leave-valid}
 use Rattle.server.specs.Session.{clear}
-use Rattle.server.specs.Sessions.{splitBy, keysIn, queueIn, watchFrom, sessionFrom, allQueueable, allPositive, watchOk, queueOk, sessionOk, wordsOfSession, bytesOfSession, sessionAt}
+use Rattle.server.specs.Sessions.{splitBy, keysIn, queueIn, paired, sessionFrom, noneAbove, allQueueable, allPositive, watchOk, queueOk, sessionOk, wordsOfSession, bytesOfSession, sessionAt}
 use Rattle.server.proofs.LayoutLaws.{Sixteen, sixteen-valid}
 use Rattle.calls.specs.Serve.{refused}
 use Rattle.calls.specs.Calls.{Lent, valid, storeOf, StoreCalled, givesStore, open-call}
@@ -39,17 +39,17 @@ part-zeros start size n h = ap (take size) (drop-zeros start n) ∙ take-zeros s
 
 -- words that begin with five zeros are a clear session
 zero-clear : (w : List ℕ) (b : Bytes) → sessionFrom (0 ∷ 0 ∷ 0 ∷ 0 ∷ 0 ∷ w) b ≡ clear
-unfolding sessionFrom watchFrom
+unfolding sessionFrom paired keysIn splitBy
 zero-clear w b = refl
 
 zero-ok : (last : ℕ) (w : List ℕ) (b : Bytes) → sessionOk last (0 ∷ 0 ∷ 0 ∷ 0 ∷ 0 ∷ w) b ≡ true
-unfolding sessionOk watchOk queueOk keysIn queueIn splitBy total allPositive allQueueable _and_
+unfolding sessionOk watchOk queueOk keysIn queueIn splitBy total noneAbove allPositive allQueueable _and_
 zero-ok last w b = refl
 
-module _ (n m : ℕ) (words : 9808 ≤ n) (bytes : 163840 ≤ m) where
-  own-words : (i : ℕ) → i < 16 → wordsOfSession i (zeros n) ≡ 0 ∷ 0 ∷ 0 ∷ 0 ∷ 0 ∷ zeros 608
+module _ (n m : ℕ) (words : 10320 ≤ n) (bytes : 163840 ≤ m) where
+  own-words : (i : ℕ) → i < 16 → wordsOfSession i (zeros n) ≡ 0 ∷ 0 ∷ 0 ∷ 0 ∷ 0 ∷ zeros 640
   unfolding wordsOfSession
-  own-words i h = part-zeros (i * 613) 613 n (omega arith)
+  own-words i h = part-zeros (i * 645) 645 n (omega arith)
 
   zeros-clear : (i : ℕ) → i < 16 → sessionAt i (zeros n) (zeros m) ≡ clear
   unfolding sessionAt

@@ -5,7 +5,6 @@ use native.Mathlib.Omega.{arith}
 use native.Mathlib.Decide.{ℕ-discrete}
 use mathlib.Core.List.{List, [], _∷_, _++_, map}
 use mathlib.Core.Bool.{Bool, true, false, cond}
-use mathlib.Core.Option.{Option}
 use mathlib.Core.Path.{_≡_, refl, sym, ap, _∙_}
 use lib.Dec.{ltb, eqb}
 use lib.ListN.{length, getD, set, length-set, getD-replicate}
@@ -105,7 +104,7 @@ module _ (l : Lent) (ds : List Client) (ok : valid l ≡ true) (g : Clients l ds
         own : Mirrors (getD ds i closed) (d .session)
         own =
             let m = g .mirrors i h in
-            record { queue = m .queue ∙ sym p; watched = λ k. m .watched k ∙ ap (λ (x : Option Watching). among (watchedKeys x) k) (sym q) }
+            record { queue = m .queue ∙ sym p; watched = λ k. m .watched k ∙ ap (λ (x : Watching). among (watchedKeys x) k) (sym q) }
 
         which : (j : ℕ) → j < 16 → Dec (j ≡ i) → Mirrors (getD ds j closed) (sessionOf j l′)
         which j k (yes e) = rw (e, left .own) own

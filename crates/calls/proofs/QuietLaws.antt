@@ -24,7 +24,7 @@ module _ (b : Bytes) (d : Client) where
   unfolding turnExec
   exec-quiet q n = go (isArray b) refl
     where
-      go : (t : Bool) → isArray b ≡ t → cond {A = Turn} t (record { client = closed; items = exec (d .watched) (map commandOf q) b ∷ [] }) (onlyIf (isReply NilArray b || isReply execAbort b) d closed) .items ≡ []
+      go : (t : Bool) → isArray b ≡ t → cond {A = Turn} t (record { client = closed; items = exec (map commandOf q) b ∷ [] }) (onlyIf (isReply NilArray b || isReply execAbort b) d closed) .items ≡ []
       go true e = absurd (n e)
       go false e = refl
 

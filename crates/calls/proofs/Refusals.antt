@@ -21,7 +21,7 @@ use Rattle.batch.specs.Group.{plain, conflicts, hasRoom, hasSequences, heldKeys
 use Rattle.batch.specs.Members.{groupFits}
 use Rattle.server.specs.Names.{Args, Row, rowOf, nameWord, arguments, countRight, Control, MULTI, EXEC, DISCARD, WATCH, UNWATCH, QUIT, other, controlOf}
 use Rattle.server.specs.Command.{Executed, runs, lists, Effect, executedOf, run}
-use Rattle.server.specs.Session.{Session, Result, number, reply, Done, Decision, returns, marked, committed, direct, watching, watchFits, addKeys, watchOr, outsideMulti, enqueue, queueFits, decide, apply, execute, insideMulti, respondBy, respond}
+use Rattle.server.specs.Session.{watchedKeys, Session, Result, number, reply, Done, Decision, returns, marked, committed, direct, watching, watchFits, addKeys, outsideMulti, enqueue, queueFits, decide, apply, execute, insideMulti, respondBy, respond}
 use Rattle.server.specs.Finish.{Served, silent, fitted, finishBy, finish, replyBuffer}
 use Rattle.calls.specs.Serve.{serveReading, serve, Outcome, refused, answered}
 use Rattle.calls.specs.Calls.{Lent, valid, storeOf, sessionOf, leaveSession, leaveServed, refuses, refusesStore, open-call, request-call, group-call, verdictBuffer}
@@ -56,7 +56,7 @@ either false d e s p q = q
 
 watching-fit : (ks : List Bytes) (st : Store) (s : Session) → Fit (watching ks st s) s
 unfolding watching
-watching-fit ks st s = either (watchFits (addKeys ks (watchOr (st .last) (s .watch) .keys))) _ (returns 5 st s) s tt (omega arith, λ h. absurd (omega arith))
+watching-fit ks st s = either (watchFits (watchedKeys (addKeys (st .last) ks (s .watch)))) _ (returns 5 st s) s tt (omega arith, λ h. absurd (omega arith))
 
 outside-fit : (c : Control) (r : Row) (a : Args) (st : Store) (s : Session) → Fit (outsideMulti c r a st s) s
 unfolding outsideMulti

@@ -1,132 +1,71 @@
--- Each answer to EXEC has its cause: a mark, a held key written since the first WATCH in force, or none; and without one it replies as
--- posting does on the table of that WATCH.
-use Prim.Native.Nat.{ℕ, _≤_, _<_}
+-- Each answer to EXEC has its cause: a mark, a watched key written since its WATCH in force, or none; and without one it replies as posting does.
+use Prim.Native.Nat.{ℕ, _<_}
 use native.Mathlib.Omega.{arith}
 use native.Mathlib.Decide.{ℕ-discrete}
-use mathlib.Core.List.{List, [], _∷_, _++_, map}
-use mathlib.Core.Bool.{Bool, true, false, cond, _||_, false≢true, or-assoc, or-true, or-false, or-self}
+use mathlib.Core.List.{List, [], _∷_, map}
+use mathlib.Core.Bool.{Bool, true, false, cond, _||_, false≢true}
 use mathlib.Core.Option.{Option, none, some}
-use mathlib.Core.Path.{_≡_, refl, sym, ap, _∙_, fun-ext, subst}
+use mathlib.Core.Path.{_≡_, refl, sym, ap, _∙_, subst}
 use lib.Dec.{leb, ltb}
 use lib.ListN.{length, getD}
-use borrow.Author.Tests.{ltb-true, le-ltb, eq-eqb, ne-eqb}
-use lib.IntN.{ℤ, _+ℤ_}
+use borrow.Author.Tests.{ltb-true, eq-eqb, ne-eqb}
 use Rattle.key.specs.Bytes.{Bytes}
 use Rattle.key.specs.Keys.{Key}
-use Rattle.key.proofs.Bytes.{or-swap}
-use Rattle.number.specs.declared.Number.{Number}
-use Rattle.number.specs.declared.Number.the-variants.{Int, Bad}
-use Rattle.number.specs.Number.{numberOf}
 use Rattle.resp.specs.Request.{Reading, waits, faulty, tooMany, whole, readRequest, spanned}
-use Rattle.resp.specs.Reply.{Reply, ok, array, encode}
-use Rattle.memtable.specs.Table.{Reader, Table, keysOf, find, lastWrites, over}
-use Rattle.memtable.specs.Versions.{Store, readAt, newest, moved, table}
-use Rattle.memtable.proofs.TableLaws.{Ascending}
-use Rattle.memtable.proofs.VersionLaws.{newest-bound, ascending-table, Sound, moved-above, above-moved, Later}
+use Rattle.resp.specs.Reply.{Reply, array, encode}
+use Rattle.memtable.specs.Table.{Table}
+use Rattle.memtable.specs.Versions.{Store, table}
+use Rattle.memtable.proofs.VersionLaws.{ascending-table, Sound}
 use Rattle.batch.specs.declared.Verdict.the-variants.{Accepted, Conflict, NoRoom, NoSequence}
-use Rattle.batch.specs.Group.{anyKey, among, heldKeys, conflicts, hasRoom, hasSequences, judge, verdictAlone}
-use Rattle.batch.proofs.KeyLists.{keys-append, any-append, among-append, any-same, any-alike, any-last-all}
+use Rattle.batch.specs.Group.{conflicts, hasRoom, hasSequences, judge, verdictAlone}
+use Rattle.batch.proofs.KeyLists.{any-same, any-alike}
 use Rattle.server.specs.Names.{Args, rowOf, nameWord, Control, controlOf}
-use Rattle.server.specs.Command.{Command, GET, SET, DEL, EXISTS, MGET, MSET, COUNT, FIXED, commandOf, held, summed, raised, run, checks, runQueue}
-use Rattle.server.specs.Session.{Watching, Session, Result, number, reply, Done, marked, readSequence, watchedKeys, pendingExec, execute, insideMulti, respondBy, respond}
-use Rattle.server.proofs.CommandLaws.{tombstone-keys}
-use Rattle.server.proofs.SessionLaws.{WatchHolds, SessionSound, Refuses, Kept, Renewed, respond-kept, ranBy, memberBy, ends, execute-failed, execute-ends}
+use Rattle.server.specs.Command.{commandOf}
+use Rattle.server.specs.Session.{Watching, watchedKeys, Session, Result, number, reply, Done, anyMoved, verdictExec, execute, insideMulti, respondBy, respond}
+use Rattle.server.proofs.WatchLaws.{movedBy, any-moved}
+use Rattle.server.proofs.SessionLaws.{SessionSound, Refuses, Kept, respond-kept, ranBy, writesBy, ends, execute-failed, execute-ends}
 use Rattle.server.specs.Finish.{Served, silent, fitted, finishBy, finish}
 use Rattle.calls.specs.Serve.{serveReading, serve, Outcome, answered}
 use Rattle.calls.specs.Calls.{Lent, valid, storeOf, sessionOf, Called, request-call, Call, request, grouped, call, outcomes}
-use Rattle.calls.specs.Posting.{askedBy, Client, closed, enter, closedClients, postAll, checksOf}
-use Rattle.calls.specs.Verdicts.{setKeys, setKeysOf, writtenIn, marks, Transaction, newTransaction, snapshotAfter, sinceAfter, markedAfter, isExec, asksExec, Executes, conflicted, execReply, VerdictsPosted}
+use Rattle.calls.specs.Posting.{askedBy, Client, closed, enter, closedClients, postAll}
+use Rattle.calls.specs.Verdicts.{marks, Transaction, newTransaction, staleIn, markedAfter, isExec, asksExec, Executes, conflicted, execReply, VerdictsPosted}
 use Rattle.calls.specs.Demand3.{Opened, VerdictClaim}
-use Rattle.calls.proofs.CounterLaws.{put-keys}
-use Rattle.calls.proofs.FollowLaws.{some-among, Mirrors, read-now}
+use Rattle.calls.proofs.FollowLaws.{Mirrors, read-now}
 use Rattle.calls.proofs.MarkLaws.{stays, serve-marks}
-use Rattle.calls.proofs.CommandLaws.{queue-replies, queue-checks}
-use Rattle.calls.proofs.WatchLaws.{is-exec, read-bound, watchAt, call-moves}
+use Rattle.calls.proofs.CommandLaws.{queue-replies}
+use Rattle.calls.proofs.WatchLaws.{is-exec, watchAt, late-step, opened-late}
 use Rattle.calls.proofs.LentLaws.{Valid, valid-parts, session-good, servedBy, request-served, request-refused, request-leaves}
 use Rattle.calls.proofs.IsolationLaws.{isolated}
 use Rattle.calls.proofs.Posting.{Clients, step-follows, opened-clients, opened-table}
-
--- THE KEYS ON WHICH AN EXEC TURNS. Two commands, joined
-joined : (a s c w t k : Bool) → (a || c) ≡ (s || c) → (w || k) ≡ (t || k) → ((a || w) || (c || k)) ≡ ((s || t) || (c || k))
-joined a s true w t k e g = rw (or-true (a || w), or-true (s || t))
-joined a s false w t k e g =
-    rw (or-assoc a w k, or-assoc s t k, g) (ap (λ (b : Bool). b || (t || k)) (sym (or-false a) ∙ e ∙ or-false s))
-
-module _ (f : Key → Bool) where
-  counter-turns : (k : Key) (by : ℤ) (n : Number) → (anyKey f (keysOf (raised k by n .1)) || anyKey f (k ∷ [])) ≡ (anyKey f [] || anyKey f (k ∷ []))
-  unfolding raised anyKey
-  counter-turns k by Bad = refl
-  counter-turns k by (Int n) = go (numberOf (n +ℤ by))
-    where
-      go : (m : Number) → (anyKey f (keysOf (summed k m .1)) || anyKey f (k ∷ [])) ≡ (anyKey f [] || anyKey f (k ∷ []))
-      go Bad = unfold summed in refl
-      go (Int m) = unfold summed in or-self (f k || false)
-
-  -- a command writes or checks the same keys, whatever it reads
-  command-turns : (r : Reader) (c : Command) → (anyKey f (keysOf (run r c .1)) || anyKey f (checks c)) ≡ (anyKey f (setKeys c) || anyKey f (checks c))
-  unfolding run setKeys checks
-  command-turns r (GET k) = refl
-  command-turns r (SET k v) = refl
-  command-turns r (DEL ks) = ap (λ (l : List Key). anyKey f l || anyKey f []) (tombstone-keys ks)
-  command-turns r (EXISTS ks) = refl
-  command-turns r (MGET ks) = refl
-  command-turns r (MSET es) = ap (λ (l : List Key). anyKey f l || anyKey f []) (put-keys es)
-  command-turns r (COUNT k by) = counter-turns k by (held (r k))
-  command-turns r (FIXED p) = refl
-
-  queue-turns : (r : Reader) (cs : List Command)
-      → (anyKey f (keysOf (runQueue r cs .writes)) || anyKey f (checksOf cs)) ≡ (anyKey f (setKeysOf cs) || anyKey f (checksOf cs))
-  unfolding runQueue setKeysOf checksOf
-  queue-turns r [] = refl
-  queue-turns r (c ∷ cs) =
-      let e = run r c in
-      let rest = runQueue (over (e .1) r) cs in
-      rw (keys-append (e .1) (rest .writes), any-append f (keysOf (e .1)) (keysOf (rest .writes)), any-append f (setKeys c) (setKeysOf cs), any-append f (checks c) (checksOf cs))
-      (joined (anyKey f (keysOf (e .1))) (anyKey f (setKeys c)) (anyKey f (checks c)) (anyKey f (keysOf (rest .writes))) (anyKey f (setKeysOf cs)) (anyKey f (checksOf cs))
-      (command-turns r c) (queue-turns (over (e .1) r) cs))
 
 -- by the reply that is due; a number is none
 abbrev Due : Reply → Result → Type 0
 Due x (number n) = Unit {0}
 Due x (reply r) = r ≡ x
 
--- what a transaction tells of a store and a watch: the keys moved since the snapshot, and what a read at it finds
-record Tells (st : Store) (w : Option Watching) (snapshot : Table) (since : List Key) : Type 0 where
-  moves : (k : Key) → moved (readSequence st w) (st .versions) k ≡ among since k
-  reads : readAt (readSequence st w) (st .versions) ≡ find snapshot
-  order : Ascending snapshot
+-- what a transaction tells of a store and a watch: the watched keys that have moved
+abbrev Tells : Store → Watching → (Key → Bool) → Type 0
+Tells st w stale = (k : Key) → stale k ≡ movedBy (st .versions) w k
 
 -- AN EXEC, BY ITS CAUSE, on a session that `d` mirrors
-module _ (st : Store) (s : Session) (sound : Sound st) (good : SessionSound (st .last) s) (d : Client) (m : Mirrors d s) (snapshot : Table) (since : List Key)
-    (tells : Tells st (s .watch) snapshot since) where
+module _ (st : Store) (s : Session) (sound : Sound st) (good : SessionSound (st .last) s) (d : Client) (m : Mirrors d s) (stale : Key → Bool)
+    (tells : Tells st (s .watch) stale) where
   abbrev due : Bool → List Args → Reply
-  due f q = execReply f (conflicted since d q) snapshot q
+  due f q = execReply f (conflicted stale d) (table (st .versions)) q
 
-  -- the keys of the member are those on which the EXEC turns
-  same-conflict : (q : List Args) → conflicts (memberBy q st s .readSeq) [] (st .versions) (heldKeys (memberBy q st s)) ≡ conflicted since d q
-  unfolding conflicts memberBy pendingExec ranBy
-  same-conflict q =
-      let r = readAt (readSequence st (s .watch)) (st .versions) in
-      let cs = map commandOf q in
-      let ran = runQueue r cs in
-      let f = among since in
-      let w = watchedKeys (s .watch) in
-      any-alike (λ k. among [] k || moved (readSequence st (s .watch)) (st .versions) k) f (keysOf (lastWrites [] (ran .writes)) ++ (w ++ ran .checked)) (unfold anyKey in tells .moves)
-      ∙ any-append f (keysOf (lastWrites [] (ran .writes))) (w ++ ran .checked)
-      ∙ (λ z. any-last-all f (ran .writes) z || any-append f w (ran .checked) z)
-      ∙ ap (λ (l : List Key). anyKey f (keysOf (ran .writes)) || (anyKey f w || anyKey f l)) (queue-checks cs r)
-      ∙ or-swap (anyKey f (keysOf (ran .writes))) (anyKey f w) (anyKey f (checksOf cs))
-      ∙ (λ z. any-same f w (d .watched) (λ k. sym (m .watched k)) z || queue-turns f r cs z)
-      ∙ sym (ap (λ (b : Bool). anyKey f (d .watched) || b) (any-append f (setKeysOf cs) (checksOf cs)))
-      ∙ sym (any-append f (d .watched) (setKeysOf cs ++ checksOf cs))
+  same-conflict : anyMoved (st .versions) (s .watch) ≡ conflicted stale d
+  same-conflict =
+      any-moved (st .versions) (s .watch)
+      ∙ any-alike (movedBy (st .versions) (s .watch)) stale (watchedKeys (s .watch)) (λ k. sym (tells k))
+      ∙ any-same stale (watchedKeys (s .watch)) (d .watched) (λ k. sym (m .watched k))
 
-  ends-due : (q : List Args) → Due (due false q) (ends (verdictAlone st (memberBy q st s)) (ranBy q st s) (memberBy q st s) st s .result)
-  unfolding verdictAlone judge
-  ends-due q = rw (same-conflict q) (go (conflicted since d q) (hasRoom st (memberBy q st s .writes)) (hasSequences st (memberBy q st s .writes)))
+  ends-due : (q : List Args) → Due (due false q) (ends (verdictExec (writesBy q st) st (s .watch)) (ranBy q st) (writesBy q st) st s .result)
+  unfolding verdictExec verdictAlone judge conflicts
+  ends-due q = rw same-conflict (go (conflicted stale d) (hasRoom st (writesBy q st)) (hasSequences st (writesBy q st)))
     where
-      go : (c h n : Bool) → Due (execReply false c snapshot q) (ends (cond c Conflict (cond h (cond n Accepted NoSequence) NoRoom)) (ranBy q st s) (memberBy q st s) st s .result)
+      go : (c h n : Bool) → Due (execReply false c (table (st .versions)) q) (ends (cond c Conflict (cond h (cond n Accepted NoSequence) NoRoom)) (ranBy q st) (writesBy q st) st s .result)
       go true h n = unfold ends execReply in refl
-      go false true true = unfold ends execReply ranBy in ap array (queue-replies (map commandOf q) _ snapshot (tells .order) (tells .reads))
+      go false true true = unfold ends execReply ranBy in ap array (queue-replies (map commandOf q) _ (table (st .versions)) (ascending-table (st .versions)) (read-now st sound))
       go false true false = unfold ends in tt
       go false false n = unfold ends in tt
 
@@ -173,43 +112,6 @@ module _ (st : Store) (s : Session) (sound : Sound st) (good : SessionSound (st 
   unfolding serve
   serve-due q places room input = reading-due q room input (readRequest places input)
 
--- THE KEYS MOVED since the snapshot are those written since.
-still-unmoved : (st : Store) → Sound st → (k : Key) → moved (st .last) (st .versions) k ≡ false
-unfolding moved
-still-unmoved st b k = le-ltb (st .last) (newest (st .versions) k) (newest-bound (st .last) (st .versions) (b .seqs) k)
-
--- what posting makes of a call: what it writes has moved, and the rest keeps its newest version
-record Wrote (st after : Store) (written : List Key) (now : Table) : Type 0 where
-  later : Later st after
-  moves : (k : Key) → among written k ≡ true → moved (st .last) (after .versions) k ≡ true
-  keeps : (k : Key) → among written k ≡ false → newest (after .versions) k ≡ newest (st .versions) k
-  table-now : now ≡ table (after .versions)
-
-tells-step : (st after : Store) (w w′ : Option Watching) (watched since written : List Key) (snapshot now : Table) → Sound after → Wrote st after written now → Renewed st w w′
-    → readSequence st w ≤ st .last → WatchHolds (after .last) w′ → ((k : Key) → among watched k ≡ among (watchedKeys w′) k)
-    → Tells st w snapshot since → Tells after w′ (snapshotAfter watched snapshot now) (sinceAfter watched since written)
-unfolding snapshotAfter sinceAfter
-tells-step st after w (some y) [] since written snapshot now good x r b u same h = some-among (y .keys) (u .some-key) same
-tells-step st after w none (j ∷ js) since written snapshot now good x r b u same h = some-among (j ∷ js) (omega arith) (λ i. sym (same i))
-tells-step st after w none [] since written snapshot now good x r b u same h = record {
-  moves = λ k. still-unmoved after good k ∙ (unfold anyKey in refl);
-  reads = read-now after good ∙ ap find (sym (x .table-now));
-  order = rw (x .table-now) (ascending-table (after .versions));
-}
-tells-step st after w (some y) (j ∷ js) since written snapshot now good x r b u same h = record {
-  moves = λ k. go k (among written k) refl ∙ ap (λ (c : Bool). c || among written k) (h .moves k) ∙ sym (among-append since written k);
-  reads = fun-ext (λ k. x .later .reads (y .snapshot) k (omega (arith, r, b))) ∙ ap (λ (n : ℕ). readAt n (st .versions)) r ∙ h .reads;
-  order = h .order;
-}
-  where
-    go : (k : Key) (c : Bool) → among written k ≡ c → moved (y .snapshot) (after .versions) k ≡ (moved (readSequence st w) (st .versions) k || c)
-    go k true e =
-        above-moved (y .snapshot) (after .versions) k (omega (arith, moved-above (st .last) (after .versions) k (x .moves k e), r, b))
-        ∙ sym (or-true (moved (readSequence st w) (st .versions) k))
-    go k false e =
-        let p : moved (y .snapshot) (after .versions) k ≡ moved (readSequence st w) (st .versions) k = unfold moved in λ z. ltb (r z) (x .keeps k e z) in
-        p ∙ sym (or-false (moved (readSequence st w) (st .versions) k))
-
 -- ONE CALL, for session i
 module _ (i : ℕ) (inside : i < 16) (l : Lent) (ds : List Client) (ok : valid l ≡ true) (g : Clients l ds) (free : sessionOf i l .queue ≡ none → sessionOf i l .failed ≡ false) where
   v : Valid l
@@ -239,23 +141,23 @@ module _ (i : ℕ) (inside : i < 16) (l : Lent) (ds : List Client) (ok : valid l
       go (yes e) = subst (λ (n : ℕ). MarkedIn (sessionOf i (request-call n s places room l .lent)) (marks i (request n s places room) (request-call n s places room l .outcome) ds)) (sym e) (own-marks s places room)
       go (no n) = same-marks _ (isolated .others j i s places room l ok inside (λ e. n (sym e))) _ (unfold marks in rw (ne-eqb j i n))
 
-  call-due : (snapshot : Table) (since : List Key) → Tells (storeOf l) (watchAt i l) snapshot since → (c : Call) (q : List Args) → getD ds i closed .queue ≡ some q
-      → Executes i c (call c l .outcome) → call c l .outcome .reply ≡ encode (execReply (sessionOf i l .failed) (conflicted since (getD ds i closed) q) snapshot q)
+  call-due : (stale : Key → Bool) → Tells (storeOf l) (watchAt i l) stale → (c : Call) (q : List Args) → getD ds i closed .queue ≡ some q → Executes i c (call c l .outcome)
+      → call c l .outcome .reply ≡ encode (execReply (sessionOf i l .failed) (conflicted stale (getD ds i closed)) (table (storeOf l .versions)) q)
   unfolding call
-  call-due snapshot since h (grouped ms parts d verdicts) q o e = absurd e
-  call-due snapshot since h (request j s places room) q o e =
+  call-due stale h (grouped ms parts d verdicts) q o e = absurd e
+  call-due stale h (request j s places room) q o e =
       let d = servedBy i s places room l in
       let served : request-call j s places room l .outcome ≡ answered d =
       ap (λ (n : ℕ). request-call n s places room l .outcome) (e .0) ∙ ap (λ (x : Called). x .outcome) (request-served i s places room l inside ok) in
       let accepted : d .number ≡ 0 = ap (λ (x : Outcome). x .number) (sym served) ∙ e .1 in
       ap (λ (x : Outcome). x .reply) served
-      ∙ serve-due (storeOf l) (sessionOf i l) (v .sound) good (getD ds i closed) (g .mirrors i inside) snapshot since h q places room s (sym (g .mirrors i inside .queue) ∙ o) (e .2) accepted
+      ∙ serve-due (storeOf l) (sessionOf i l) (v .sound) good (getD ds i closed) (g .mirrors i inside) stale h q places room s (sym (g .mirrors i inside .queue) ∙ o) (e .2) accepted
 
 -- A LIST OF CALLS. Session i is marked as posting has it, and its transaction tells of the store and its watch.
 record Tracks (i : ℕ) (l : Lent) (x : Transaction) : Type 0 where
   failed : sessionOf i l .failed ≡ x .marked
   free : sessionOf i l .queue ≡ none → sessionOf i l .failed ≡ false
-  tells : Tells (storeOf l) (watchAt i l) (x .snapshot) (x .since)
+  tells : Tells (storeOf l) (watchAt i l) (x .stale)
 
 verdicts-posted : (i : ℕ) (inside : i < 16) (cs : List Call) (l : Lent) (ds : List Client) (t : Table) (x : Transaction) → valid l ≡ true → Clients l ds
     → t ≡ table (storeOf l .versions) → Tracks i l x → VerdictsPosted i cs (outcomes cs l) ds t x
@@ -263,21 +165,15 @@ unfolding outcomes
 verdicts-posted i inside [] l ds t x ok g same h = tt
 verdicts-posted i inside (c ∷ cs) l ds t x ok g same h =
     let f = step-follows l ds ok g c in
-    let m = call-moves i inside c l ok in
     let l′ = call c l .lent in
     let e = enter c (call c l .outcome) ds in
     let mirror = f .clients .mirrors i inside in
-    let after = valid-parts l′ (f .fit) in
-    let kept = call-marks i inside l ds ok g (h .free) c in
-    let now : postAll (e .items) t ≡ table (storeOf l′ .versions) = ap (postAll (e .items)) same ∙ f .tables in
-    let wrote : Wrote (storeOf l) (storeOf l′) (writtenIn (e .items) t) (postAll (e .items) t) =
-    record { later = m .later; moves = rw (sym same) at (f .moves); keeps = rw (sym same) at (f .keeps); table-now = now } in (
-      (λ q o y. rw (h .failed) at (call-due i inside l ds ok g (h .free) (x .snapshot) (x .since) (h .tells) c q o y)),
-      verdicts-posted i inside cs l′ (e .clients) (postAll (e .items) t) _ (f .fit) (f .clients) now (record {
+    let kept = call-marks i inside l ds ok g (h .free) c in (
+      (λ q o y. rw (same, ← (h .failed)) (call-due i inside l ds ok g (h .free) (x .stale) (h .tells) c q o y)),
+      verdicts-posted i inside cs l′ (e .clients) (postAll (e .items) t) _ (f .fit) (f .clients) (ap (postAll (e .items)) same ∙ f .tables) (record {
         failed = kept ∙ (λ z. markedAfter (sym (mirror .queue) z) (h .failed z || marks i c (call c l .outcome) ds));
         free = λ n. kept ∙ ap (λ (q : Option (List Args)). markedAfter q (sessionOf i l .failed || marks i c (call c l .outcome) ds)) n ∙ (unfold markedAfter in refl);
-        tells = tells-step (storeOf l) (storeOf l′) (watchAt i l) (watchAt i l′) (getD (e .clients) i closed .watched) (x .since) (writtenIn (e .items) t) (x .snapshot) (postAll (e .items) t)
-            (after .sound) wrote (m .renewed) (read-bound (storeOf l) (watchAt i l) (session-good l (valid-parts l ok) i inside .watch)) (session-good l′ after i inside .watch) (mirror .watched) (h .tells);
+        tells = λ k. ap (λ (y : Table). staleIn i k e y (x .stale k)) same ∙ late-step k i inside c l ds (x .stale k) ok g (h .tells k);
       }),
     )
 
@@ -297,16 +193,7 @@ no-session-verdicts i e (c ∷ cs) l ds t x = (λ q o y. absurd (never-executes 
 opened-tracks : (i : ℕ) → i < 16 → (l : Lent) → Opened l → Tracks i l newTransaction
 opened-tracks i inside l o =
     let s = o .sessions i inside in
-    let b = valid-parts l (o .fit) .sound in
-    record {
-      failed = ap (λ (x : Session). x .failed) s;
-      free = λ n. ap (λ (x : Session). x .failed) s;
-      tells = subst (λ (x : Session). Tells (storeOf l) (x .watch) [] []) (sym s) (record {
-        moves = λ k. still-unmoved (storeOf l) b k ∙ (unfold anyKey in refl);
-        reads = read-now (storeOf l) b ∙ ap find (opened-table l o);
-        order = tt;
-      });
-    }
+    record { failed = ap (λ (x : Session). x .failed) s; free = λ n. ap (λ (x : Session). x .failed) s; tells = λ k. opened-late k i inside l o }
 
 pub verdicts-caused : VerdictClaim
 verdicts-caused cs l o i = go (ltb i 16) refl

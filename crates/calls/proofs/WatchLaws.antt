@@ -1,9 +1,9 @@
 -- No EXEC is accepted with a key moved since its WATCH.
-use Prim.Native.Nat.{ℕ, _+_, _≤_, _<_}
+use Prim.Native.Nat.{ℕ, _≤_, _<_}
 use native.Mathlib.Omega.{arith}
 use native.Mathlib.Decide.{ℕ-discrete}
-use mathlib.Core.List.{List, [], _∷_, _++_, map}
-use mathlib.Core.Bool.{Bool, true, false, cond, _||_, _&&_, false≢true}
+use mathlib.Core.List.{List, [], _∷_, map}
+use mathlib.Core.Bool.{Bool, true, false, cond, _||_, _&&_, false≢true, or-true, or-false}
 use mathlib.Core.Option.{Option, none, some}
 use mathlib.Core.Path.{_≡_, refl, sym, ap, _∙_, subst}
 use lib.Dec.{leb, ltb}
@@ -14,28 +14,26 @@ use Rattle.key.specs.Keys.{Key}
 use Rattle.key.proofs.Bytes.{neither}
 use Rattle.resp.specs.Request.{Reading, waits, faulty, tooMany, whole, readRequest, spanned}
 use Rattle.resp.specs.Reply.{Reply, Error, NilArray, encode}
-use Rattle.memtable.specs.Table.{Table, keysOf, lastWrites}
-use Rattle.memtable.specs.Versions.{Store, moved, table}
-use Rattle.memtable.proofs.VersionLaws.{moved-above, above-moved, Later, later-refl}
+use Rattle.memtable.specs.Table.{Table}
+use Rattle.memtable.specs.Versions.{Store, newest, moved, table}
+use Rattle.memtable.proofs.VersionLaws.{moved-above, above-moved, Sound}
 use Rattle.batch.specs.declared.Verdict.{Verdict}
 use Rattle.batch.specs.declared.Verdict.the-variants.{Accepted, Conflict, NoRoom, NoSequence, NotTaken}
-use Rattle.batch.specs.declared.Member.{Member}
-use Rattle.batch.specs.Group.{anyKey, among, verdictAlone, group}
-use Rattle.batch.specs.Members.{groupFits, pendingOf}
-use Rattle.batch.proofs.KeyLists.{among-left, among-right}
-use Rattle.batch.proofs.GroupLaws.{after-group}
+use Rattle.batch.specs.Group.{among}
+use Rattle.batch.specs.Members.{groupFits}
 use Rattle.server.specs.Names.{Args, Row, rowOf, nameWord, Control, MULTI, EXEC, DISCARD, WATCH, UNWATCH, QUIT, other, controlOf}
-use Rattle.server.specs.Session.{Watching, Session, Result, number, reply, Done, readSequence, watchedKeys, outsideMulti, execute, insideMulti, respondBy, respond}
-use Rattle.server.proofs.SessionLaws.{WatchHolds, Renewed, renewed-same, ranBy, memberBy, exec-calm, ends, execute-failed, execute-ends}
+use Rattle.server.specs.Session.{Watching, watchedKeys, Session, Result, number, reply, Done, anyMoved, verdictExec, outsideMulti, execute, insideMulti, respondBy, respond}
+use Rattle.server.proofs.WatchLaws.{movedBy, moved-any, moved-later}
+use Rattle.server.proofs.SessionLaws.{Renewed, renewed-same, still-unmoved, ranBy, writesBy, exec-calm, ends, execute-failed, execute-ends}
 use Rattle.server.specs.Finish.{Served, silent, fitted, finishBy, finish}
 use Rattle.calls.specs.Serve.{serveReading, serve, Outcome, answered}
 use Rattle.calls.specs.Calls.{Lent, valid, storeOf, sessionOf, Called, leaveServed, request-call, Call, request, grouped, call, outcomes}
 use Rattle.calls.specs.Posting.{askedBy, isArray, Client, closed, enter, closedClients, postAll}
-use Rattle.calls.specs.Verdicts.{isExec, asksExec, writtenIn}
-use Rattle.calls.specs.Demand3.{Accepts, staleAfter, NoStaleExec, WatchClaim, staleIn, NoStalePosted, PostedWatchClaim}
+use Rattle.calls.specs.Verdicts.{isExec, asksExec, writtenIn, staleIn}
+use Rattle.calls.specs.Demand3.{Opened, Accepts, staleAfter, NoStaleExec, WatchClaim, NoStalePosted, PostedWatchClaim}
 use Rattle.calls.proofs.ReplyLaws.{error-no-array, nil-array-no-array}
 use Rattle.calls.proofs.ServeLaws.{serve-kept}
-use Rattle.calls.proofs.LentLaws.{valid-parts, session-good, Leaves, servedBy, request-served, request-refused, request-leaves, judged-leaves, group-judged, group-refused}
+use Rattle.calls.proofs.LentLaws.{valid-parts, session-good, Leaves, servedBy, request-served, request-refused, request-leaves, group-judged, group-refused}
 use Rattle.calls.proofs.Posting.{Clients, step-follows, opened-clients, opened-table}
 
 pub is-exec : (c : Control) → isExec c ≡ true → c ≡ EXEC
@@ -47,10 +45,10 @@ is-exec UNWATCH e = absurd (false≢true e)
 is-exec QUIT e = absurd (false≢true e)
 is-exec other e = absurd (false≢true e)
 
--- AN EXEC ANSWERED BY AN ARRAY met no conflict: no watched key has moved since the snapshot.
+-- AN EXEC ANSWERED BY AN ARRAY met no conflict: no watched key has moved since its sequence.
 module _ (st : Store) (s : Session) where
   abbrev Calm : Type 0
-  Calm = (k : Key) → among (watchedKeys (s .watch)) k ≡ true → moved (readSequence st (s .watch)) (st .versions) k ≡ false
+  Calm = anyMoved (st .versions) (s .watch) ≡ false
 
   abbrev Fresh : Result → Type 0
   Fresh (number n) = Unit {0}
@@ -62,11 +60,9 @@ module _ (st : Store) (s : Session) where
   nil-fresh : Fresh (reply NilArray)
   nil-fresh e = neither e nil-array-no-array
 
-  ends-fresh : (q : List Args) (v : Verdict) → verdictAlone st (memberBy q st s) ≡ v → Fresh (ends v (ranBy q st s) (memberBy q st s) st s .result)
+  ends-fresh : (q : List Args) (v : Verdict) → verdictExec (writesBy q st) st (s .watch) ≡ v → Fresh (ends v (ranBy q st) (writesBy q st) st s .result)
   unfolding ends
-  ends-fresh q Accepted e = λ a k c.
-      exec-calm q st s e k
-      (among-right (keysOf (lastWrites [] (ranBy q st s .writes))) (watchedKeys (s .watch) ++ ranBy q st s .checked) k (among-left (watchedKeys (s .watch)) (ranBy q st s .checked) k c))
+  ends-fresh q Accepted e = λ a. exec-calm (writesBy q st) st (s .watch) e .0
   ends-fresh q Conflict e = nil-fresh
   ends-fresh q NoRoom e = tt
   ends-fresh q NoSequence e = tt
@@ -116,131 +112,124 @@ module _ (st : Store) (s : Session) where
   unfolding serve
   serve-fresh places room input = reading-fresh room input (readRequest places input)
 
--- the snapshot of a sound session is not above the last sequence
-pub read-bound : (st : Store) (w : Option Watching) → WatchHolds (st .last) w → readSequence st w ≤ st .last
-read-bound st none h = omega arith
-read-bound st (some w) h = h .bound
-
 -- WHAT A CALL DOES TO THE WATCH of session i
-abbrev pub watchAt : ℕ → Lent → Option Watching
+abbrev pub watchAt : ℕ → Lent → Watching
 watchAt i l = sessionOf i l .watch
 
 module _ (i : ℕ) (inside : i < 16) where
-  pub record Moves (l l′ : Lent) : Type 0 where
-    pub later : Later (storeOf l) (storeOf l′)
-    pub renewed : Renewed (storeOf l) (watchAt i l) (watchAt i l′)
+  unmoved : (l : Lent) → valid l ≡ true → Renewed (storeOf l) (watchAt i l) (watchAt i l)
+  unmoved l ok = renewed-same (storeOf l) (sessionOf i l) (session-good l (valid-parts l ok) i inside)
 
-  unmoved : (l : Lent) → Moves l l
-  unmoved l = record { later = later-refl (storeOf l); renewed = renewed-same (storeOf l) (watchAt i l) }
-
-  -- every call leaves a later store, and renews the watch of session i at most
-  request-moves : (j : ℕ) (input : Bytes) (places room : ℕ) (l : Lent) → valid l ≡ true → Moves l (request-call j input places room l .lent)
-  request-moves j input places room l ok = go (ltb j 16) refl
+  -- every call renews the watch of session i at most
+  request-renews : (j : ℕ) (input : Bytes) (places room : ℕ) (l : Lent) → valid l ≡ true → Renewed (storeOf l) (watchAt i l) (watchAt i (request-call j input places room l .lent))
+  request-renews j input places room l ok = go (ltb j 16) refl
     where
-      go : (b : Bool) → ltb j 16 ≡ b → Moves l (request-call j input places room l .lent)
-      go false p = rw (request-refused j input places room l p) (unmoved l)
+      go : (b : Bool) → ltb j 16 ≡ b → Renewed (storeOf l) (watchAt i l) (watchAt i (request-call j input places room l .lent))
+      go false p = rw (request-refused j input places room l p) (unmoved l ok)
       go true p =
           let h = ltb-true j 16 p in
           let v = valid-parts l ok in
-          let d = servedBy j input places room l in
           let kept = serve-kept (storeOf l) (sessionOf j l) (v .sound) (session-good l v j h) places room input in
-          let left = request-leaves j input places room l h ok in
-          rw (request-served j input places room l h ok) (record {
-            later = rw (left .store) (kept .store .later);
-            renewed = which h (kept .watch) left (ℕ-discrete i j);
-          })
+          rw (request-served j input places room l h ok) (which (kept .watch) (request-leaves j input places room l h ok) (ℕ-discrete i j))
         where
-          which : j < 16 → Renewed (storeOf l) (sessionOf j l .watch) (servedBy j input places room l .session .watch)
+          which : Renewed (storeOf l) (sessionOf j l .watch) (servedBy j input places room l .session .watch)
               → Leaves j l (servedBy j input places room l) (leaveServed j (servedBy j input places room l) l)
               → Dec (i ≡ j) → Renewed (storeOf l) (watchAt i l) (watchAt i (leaveServed j (servedBy j input places room l) l))
-          which h r left (yes e) =
+          which r left (yes e) =
               subst (λ (n : ℕ). Renewed (storeOf l) (sessionOf n l .watch) (sessionOf n (leaveServed j (servedBy j input places room l) l) .watch)) (sym e)
               (subst (λ (x : Session). Renewed (storeOf l) (sessionOf j l .watch) (x .watch)) (sym (left .own)) r)
-          which h r left (no n) =
-              subst (λ (x : Session). Renewed (storeOf l) (watchAt i l) (x .watch)) (sym (left .others i inside n)) (renewed-same (storeOf l) (watchAt i l))
+          which r left (no n) = subst (λ (x : Session). Renewed (storeOf l) (watchAt i l) (x .watch)) (sym (left .others i inside n)) (unmoved l ok)
 
-  group-moves : (ms : List Member) (parts : List ℕ) (text verdicts : Bytes) (l : Lent) → valid l ≡ true → Moves l (call (grouped ms parts text verdicts) l .lent)
-  group-moves ms parts text verdicts l ok = go (groupFits parts text ms verdicts) refl
+  pub call-renews : (c : Call) (l : Lent) → valid l ≡ true → Renewed (storeOf l) (watchAt i l) (watchAt i (call c l .lent))
+  call-renews (request j input places room) l ok = unfold call in request-renews j input places room l ok
+  call-renews (grouped ms parts text verdicts) l ok = go (groupFits parts text ms verdicts) refl
     where
-      go : (b : Bool) → groupFits parts text ms verdicts ≡ b → Moves l (call (grouped ms parts text verdicts) l .lent)
-      go false p = rw (group-refused ms parts text verdicts l ok p) (unmoved l)
-      go true p =
-          let a = after-group (map (pendingOf parts text) ms) (storeOf l) (valid-parts l ok .sound) in
-          let q = judged-leaves l (group (map (pendingOf parts text) ms) (storeOf l) .store) ok a in
-          rw (group-judged ms parts text verdicts l ok p) (record { later = rw (q .store) (a .later); renewed = renewed-same (storeOf l) (watchAt i l) })
+      go : (b : Bool) → groupFits parts text ms verdicts ≡ b → Renewed (storeOf l) (watchAt i l) (watchAt i (call (grouped ms parts text verdicts) l .lent))
+      go false p = rw (group-refused ms parts text verdicts l ok p) (unmoved l ok)
+      go true p = rw (group-judged ms parts text verdicts l ok p) (unmoved l ok)
 
-  pub call-moves : (c : Call) (l : Lent) → valid l ≡ true → Moves l (call c l .lent)
-  call-moves (request j input places room) l ok = unfold call in request-moves j input places room l ok
-  call-moves (grouped ms parts text verdicts) l ok = group-moves ms parts text verdicts l ok
+-- WHAT A CALL MOVES is what posting writes; every other key keeps its newest version.
+module _ (st after : Store) (sound : Sound st) (written : List Key) (k : Key) (moves : among written k ≡ true → moved (st .last) (after .versions) k ≡ true)
+    (keeps : among written k ≡ false → newest (after .versions) k ≡ newest (st .versions) k) where
+  moved-kept : (n : ℕ) → among written k ≡ false → moved n (after .versions) k ≡ moved n (st .versions) k
+  unfolding moved
+  moved-kept n e = ap (ltb n) (keeps e)
+
+  pub written-moved : moved (st .last) (after .versions) k ≡ among written k
+  written-moved = go (among written k) refl
+    where
+      go : (b : Bool) → among written k ≡ b → moved (st .last) (after .versions) k ≡ among written k
+      go true e = moves e ∙ sym e
+      go false e = moved-kept (st .last) e ∙ still-unmoved st sound k ∙ sym e
+
+  written-more : (n : ℕ) → n ≤ st .last → moved n (after .versions) k ≡ (moved n (st .versions) k || among written k)
+  written-more n h = go (among written k) refl
+    where
+      go : (b : Bool) → among written k ≡ b → moved n (after .versions) k ≡ (moved n (st .versions) k || among written k)
+      go true e = above-moved n (after .versions) k (omega (arith, moved-above (st .last) (after .versions) k (moves e))) ∙ sym (rw e (or-true (moved n (st .versions) k)))
+      go false e = moved-kept n e ∙ sym (rw e (or-false (moved n (st .versions) k)))
+
+  -- a watched key has moved exactly if it had, or is written
+  pub moved-since : (w x : Watching) → Renewed st w x → movedBy (after .versions) x k ≡ (among (watchedKeys x) k && (movedBy (st .versions) w k || among written k))
+  moved-since w x r = moved-later (st .versions) (after .versions) (st .last) k (among written k) written-more x (r .bound) ∙ go (among (watchedKeys x) k) refl
+    where
+      go : (b : Bool) → among (watchedKeys x) k ≡ b → (b && (movedBy (st .versions) x k || among written k)) ≡ (b && (movedBy (st .versions) w k || among written k))
+      go true e = ap (λ (c : Bool). c || among written k) (r .moves k e)
+      go false e = refl
 
 module _ (k : Key) where
-  -- A STALE KEY is watched, and has moved since the snapshot.
-  abbrev Late : Store → Option Watching → Bool → Type 0
-  Late st w stale = stale ≡ true → (among (watchedKeys w) k ≡ true) × (moved (readSequence st w) (st .versions) k ≡ true)
-
-  late-step : (st after : Store) (w w′ : Option Watching) (stale : Bool) → Later st after → Renewed st w w′ → readSequence st w ≤ st .last → Late st w stale
-      → Late after w′ (among (watchedKeys w′) k && (stale || moved (st .last) (after .versions) k))
-  unfolding anyKey
-  late-step st after w none stale l r b h e = absurd (false≢true e)
-  late-step st after w (some x) stale l r b h e = go (among (x .keys) k) refl stale refl (moved (st .last) (after .versions) k) refl e
-    where
-      go : (c : Bool) → among (x .keys) k ≡ c → (t : Bool) → stale ≡ t → (m : Bool) → moved (st .last) (after .versions) k ≡ m
-          → (c && (t || m)) ≡ true → (among (x .keys) k ≡ true) × (moved (x .snapshot) (after .versions) k ≡ true)
-      go true p true q m n e =
-          (p, above-moved (x .snapshot) (after .versions) k (omega (arith, moved-above (readSequence st w) (st .versions) k (h q .1), l .newests k, r)))
-      go true p false q true n e = (p, above-moved (x .snapshot) (after .versions) k (omega (arith, moved-above (st .last) (after .versions) k n, r, b)))
-      go true p false q false n e = absurd (false≢true e)
-      go false p t q m n e = absurd (false≢true e)
-
   module _ (i : ℕ) (inside : i < 16) where
+    -- A STALE KEY is watched, and has moved since its sequence.
+    abbrev Late : Lent → Bool → Type 0
+    Late l stale = stale ≡ movedBy (storeOf l .versions) (watchAt i l) k
+
+    -- what a call makes of it
+    pub late-step : (c : Call) (l : Lent) (ds : List Client) (stale : Bool) → valid l ≡ true → Clients l ds → Late l stale
+        → Late (call c l .lent) (staleIn i k (enter c (call c l .outcome) ds) (table (storeOf l .versions)) stale)
+    late-step c l ds stale ok g h =
+        let f = step-follows l ds ok g c in
+        let l′ = call c l .lent in
+        let written = writtenIn (enter c (call c l .outcome) ds .items) (table (storeOf l .versions)) in
+        (λ z. f .clients .mirrors i inside .watched k z && (h z || among written k))
+        ∙ sym (moved-since (storeOf l) (storeOf l′) (valid-parts l ok .sound) written k (f .moves k) (f .keeps k) (watchAt i l) (watchAt i l′) (call-renews i inside c l ok))
+
     -- an accepted EXEC finds no stale key
-    accepts-fresh : (c : Call) (l : Lent) (stale : Bool) → valid l ≡ true → Late (storeOf l) (watchAt i l) stale → stale ≡ true → Accepts i c (call c l .outcome) → ⊥
+    accepts-fresh : (c : Call) (l : Lent) (stale : Bool) → valid l ≡ true → Late l stale → stale ≡ true → Accepts i c (call c l .outcome) → ⊥
     accepts-fresh (grouped ms parts text verdicts) l stale ok h e a = a
     accepts-fresh (request j input places room) l stale ok h e a =
         let served : request-call i input places room l .outcome ≡ answered (servedBy i input places room l) = ap (λ (x : Called). x .outcome) (request-served i input places room l inside ok) in
         let answer : isArray (servedBy i input places room l .reply) ≡ true =
         ap (λ (x : Outcome). isArray (x .reply)) (sym served) ∙ ap (λ (n : ℕ). isArray (request-call n input places room l .outcome .reply)) (sym (a .0)) ∙ (unfold call in a .3) in
-        neither (h e .1) (serve-fresh (storeOf l) (sessionOf i l) places room input (a .2) answer k (h e .0))
+        neither (moved-any (storeOf l .versions) (watchAt i l) k (sym h ∙ e)) (serve-fresh (storeOf l) (sessionOf i l) places room input (a .2) answer)
 
-    no-stale : (cs : List Call) (l : Lent) (ds : List Client) (stale : Bool) → valid l ≡ true → Clients l ds → Late (storeOf l) (watchAt i l) stale → NoStaleExec i k cs l ds stale
+    no-stale : (cs : List Call) (l : Lent) (ds : List Client) (stale : Bool) → valid l ≡ true → Clients l ds → Late l stale → NoStaleExec i k cs l ds stale
     no-stale [] l ds stale ok g h = tt
     no-stale (c ∷ cs) l ds stale ok g h =
         let f = step-follows l ds ok g c in
-        let m = call-moves i inside c l ok in
         let l′ = call c l .lent in
-        let ds′ = enter c (call c l .outcome) ds .clients in
-        let v = valid-parts l ok in
-        let same : among (getD ds′ i closed .watched) k ≡ among (watchedKeys (watchAt i l′)) k = f .clients .mirrors i inside .watched k in
-        let late = late-step (storeOf l) (storeOf l′) (watchAt i l) (watchAt i l′) stale (m .later) (m .renewed) (read-bound (storeOf l) (watchAt i l) (session-good l v i inside .watch)) h in (
+        let e = enter c (call c l .outcome) ds in
+        let written = writtenIn (e .items) (table (storeOf l .versions)) in
+        let m = written-moved (storeOf l) (storeOf l′) (valid-parts l ok .sound) written k (f .moves k) (f .keeps k) in (
           accepts-fresh c l stale ok h,
-          no-stale cs l′ ds′ (staleAfter i k c l ds stale) (f .fit) (f .clients)
-              (subst (λ (b : Bool). Late (storeOf l′) (watchAt i l′) (b && (stale || moved (storeOf l .last) (storeOf l′ .versions) k))) (sym same) late),
+          no-stale cs l′ (e .clients) (staleAfter i k c l ds stale) (f .fit) (f .clients)
+              (ap (λ (b : Bool). among (getD (e .clients) i closed .watched) k && (stale || b)) m ∙ late-step c l ds stale ok g h),
         )
 
-    -- the same by posting: a key that it writes has moved
-    weaker : (c b d x : Bool) → (b ≡ true → x ≡ true) → (c && (d || b)) ≡ true → (c && (d || x)) ≡ true
-    weaker true true true x f e = refl
-    weaker true true false x f e = f refl
-    weaker true false true x f e = refl
-    weaker true false false x f e = absurd (false≢true e)
-    weaker false b d x f e = e
-
+    -- the same by posting
     no-stale-posted : (cs : List Call) (l : Lent) (ds : List Client) (t : Table) (stale : Bool) → valid l ≡ true → Clients l ds → t ≡ table (storeOf l .versions)
-        → Late (storeOf l) (watchAt i l) stale → NoStalePosted i k cs (outcomes cs l) ds t stale
+        → Late l stale → NoStalePosted i k cs (outcomes cs l) ds t stale
     unfolding outcomes
     no-stale-posted [] l ds t stale ok g same h = tt
     no-stale-posted (c ∷ cs) l ds t stale ok g same h =
         let f = step-follows l ds ok g c in
-        let m = call-moves i inside c l ok in
-        let l′ = call c l .lent in
-        let e = enter c (call c l .outcome) ds in
-        let v = valid-parts l ok in
-        let watched : among (getD (e .clients) i closed .watched) k ≡ among (watchedKeys (watchAt i l′)) k = f .clients .mirrors i inside .watched k in
-        let late = late-step (storeOf l) (storeOf l′) (watchAt i l) (watchAt i l′) stale (m .later) (m .renewed) (read-bound (storeOf l) (watchAt i l) (session-good l v i inside .watch)) h in (
+        let e = enter c (call c l .outcome) ds in (
           accepts-fresh c l stale ok h,
-          no-stale-posted cs l′ (e .clients) (postAll (e .items) t) (staleIn i k e t stale) (f .fit) (f .clients) (ap (postAll (e .items)) same ∙ f .tables)
-              (λ z. late (weaker (among (watchedKeys (watchAt i l′)) k) (among (writtenIn (e .items) t) k) stale (moved (storeOf l .last) (storeOf l′ .versions) k) (λ y. f .moves k (rw same at y)) (rw watched at z))),
+          no-stale-posted cs (call c l .lent) (e .clients) (postAll (e .items) t) (staleIn i k e t stale) (f .fit) (f .clients) (ap (postAll (e .items)) same ∙ f .tables)
+              (ap (λ (x : Table). staleIn i k e x stale) same ∙ late-step c l ds stale ok g h),
         )
+
+    pub opened-late : (l : Lent) → Opened l → Late l false
+    opened-late l o = sym (ap (λ (x : Session). movedBy (storeOf l .versions) (x .watch) k) (o .sessions i inside) ∙ (unfold movedBy in refl))
 
   -- a session above 15 gets no array
   never-accepts : (i : ℕ) → ltb i 16 ≡ false → (l : Lent) (c : Call) → Accepts i c (call c l .outcome) → ⊥
@@ -263,12 +252,12 @@ pub no-exec-after-move : WatchClaim
 no-exec-after-move cs l o i k = go (ltb i 16) refl
   where
     go : (b : Bool) → ltb i 16 ≡ b → NoStaleExec i k cs l closedClients false
-    go true p = no-stale k i (ltb-true i 16 p) cs l closedClients false (o .fit) (opened-clients l o) (λ e. absurd (false≢true e))
+    go true p = no-stale k i (ltb-true i 16 p) cs l closedClients false (o .fit) (opened-clients l o) (opened-late k i (ltb-true i 16 p) l o)
     go false p = no-session k i p cs l closedClients false
 
 pub no-exec-after-write : PostedWatchClaim
 no-exec-after-write cs l o i k = go (ltb i 16) refl
   where
     go : (b : Bool) → ltb i 16 ≡ b → NoStalePosted i k cs (outcomes cs l) closedClients [] false
-    go true p = no-stale-posted k i (ltb-true i 16 p) cs l closedClients [] false (o .fit) (opened-clients l o) (sym (opened-table l o)) (λ e. absurd (false≢true e))
+    go true p = no-stale-posted k i (ltb-true i 16 p) cs l closedClients [] false (o .fit) (opened-clients l o) (sym (opened-table l o)) (opened-late k i (ltb-true i 16 p) l o)
     go false p = no-session-posted k i p cs l closedClients [] false

@@ -21,8 +21,8 @@ use Rattle.server.specs.Command.{Command, GET, SET, DEL, EXISTS, MGET, MSET, CO
 use Rattle.server.specs.Session.{clear}
 use Rattle.calls.specs.Serve.{Outcome}
 use Rattle.calls.specs.Calls.{Lent, valid, storeOf, sessionOf, Call, request, grouped, call, outcomes, final, request-call}
-use Rattle.calls.specs.Posting.{Asked, nothing, broken, asks, askedBy, isArray, Item, alone, listed, exec, member, Client, closed, Entered, enter, history, closedClients, post, postAll, AllHold}
-use Rattle.calls.specs.Verdicts.{setKeys, writtenIn, asksExec, newTransaction, VerdictsPosted}
+use Rattle.calls.specs.Posting.{Asked, nothing, broken, asks, askedBy, isArray, Item, alone, listed, exec, member, Client, closed, enter, history, closedClients, post, postAll, AllHold}
+use Rattle.calls.specs.Verdicts.{setKeys, asksExec, staleIn, newTransaction, VerdictsPosted}
 
 -- an empty store just opened, and clear sessions, in valid lent state
 pub record Opened (l : Lent) : Type 0 where
@@ -89,7 +89,7 @@ unfoldable pub sum : Key → List Item → Table → Option ℤ → Option ℤ
 sum k [] t n = n
 sum k (alone c b ∷ xs) t n = sum k xs (post (alone c b) t) (sumQueue k (c ∷ []) t n)
 sum k (listed l b ∷ xs) t n = sum k xs t n
-sum k (exec watched q b ∷ xs) t n = sum k xs (post (exec watched q b) t) (sumQueue k q t n)
+sum k (exec q b ∷ xs) t n = sum k xs (post (exec q b) t) (sumQueue k q t n)
 sum k (member ws ∷ xs) t n = sum k xs (post (member ws) t) n
 
 -- no command of a queue but a counter writes the key
@@ -102,7 +102,7 @@ abbrev pub OnlyCounted : Key → List Item → Type 0
 OnlyCounted k [] = Unit {0}
 OnlyCounted k (alone c b ∷ xs) = (among (setKeys c) k ≡ false) × OnlyCounted k xs
 OnlyCounted k (listed l b ∷ xs) = OnlyCounted k xs
-OnlyCounted k (exec watched q b ∷ xs) = NotSet k q × OnlyCounted k xs
+OnlyCounted k (exec q b ∷ xs) = NotSet k q × OnlyCounted k xs
 OnlyCounted k (member ws ∷ xs) = (among (keysOf ws) k ≡ false) × OnlyCounted k xs
 
 -- what the key then holds: the sum's text; with no integer reply the key is absent
@@ -127,7 +127,7 @@ abbrev pub SumOf : Key → List Item → Option ℤ → Option ℤ → Type 0
 SumOf k [] n m = m ≡ n
 SumOf k (alone c b ∷ xs) n m = (p : Reply) × (b ≡ encode p) × SumOf k xs (increment k c p n) m
 SumOf k (listed l b ∷ xs) n m = SumOf k xs n m
-SumOf k (exec watched q b ∷ xs) n m =
+SumOf k (exec q b ∷ xs) n m =
     (ps : List Reply) × (b ≡ encode (array ps)) × (length ps ≡ length q) × SumOf k xs (increments k q ps n) m
 SumOf k (member ws ∷ xs) n m = SumOf k xs n m
 
@@ -157,10 +157,7 @@ NoStaleExec i k (c ∷ cs) l ds stale =
 abbrev pub WatchClaim : Type 0
 WatchClaim = (cs : List Call) (l : Lent) → Opened l → (i : ℕ) (k : Key) → NoStaleExec i k cs l closedClients false
 
--- The same by posting alone, without the store: watched, and written by a call since. `e` is what posting makes of the call
-abbrev pub staleIn : ℕ → Key → Entered → Table → Bool → Bool
-staleIn i k e t stale = among (getD (e .clients) i closed .watched) k && (stale || among (writtenIn (e .items) t) k)
-
+-- The same by posting alone, without the store: watched, and written by a call since.
 -- no EXEC of session i is accepted while k is stale
 abbrev pub NoStalePosted : ℕ → Key → List Call → List Outcome → List Client → Table → Bool → Type 0
 NoStalePosted i k [] os ds t stale = Unit {0}
@@ -173,8 +170,8 @@ NoStalePosted i k (c ∷ cs) (o ∷ os) ds t stale =
 abbrev pub PostedWatchClaim : Type 0
 PostedWatchClaim = (cs : List Call) (l : Lent) → Opened l → (i : ℕ) (k : Key) → NoStalePosted i k cs (outcomes cs l) closedClients [] false
 
--- EACH ANSWER TO EXEC HAS ITS CAUSE: a mark gives EXECABORT, a held key written since the first WATCH in force `*-1`, and every other EXEC is
--- accepted, and replies as posting does on the table of that WATCH. For any list of calls and session
+-- EACH ANSWER TO EXEC HAS ITS CAUSE: a mark gives EXECABORT, a watched key written since its WATCH in force `*-1`, and every other EXEC is
+-- accepted, and replies as posting does. For any list of calls and session
 abbrev pub VerdictClaim : Type 0
 VerdictClaim = (cs : List Call) (l : Lent) → Opened l → (i : ℕ) → VerdictsPosted i cs (outcomes cs l) closedClients [] newTransaction
 

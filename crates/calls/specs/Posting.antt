@@ -1,23 +1,22 @@
 -- Posting (document 01, demand 3): what the calls' arguments and answers alone say of the table and the replies.
 -- First the history: by what was asked and answered, the commands carried out and the accepted members, in order of acceptance.
 -- Then the posting of a history: each item on the table that the one before it left.
-use Prim.Native.Nat.{ℕ, _+_, _≤_}
+use Prim.Native.Nat.{ℕ}
 use mathlib.Core.List.{List, [], _∷_, _++_, map}
 use mathlib.Core.Bool.{Bool, true, false, cond, not, _&&_, _||_}
 use mathlib.Core.Option.{Option, none, some}
 use mathlib.Core.Path.{_≡_}
 use lib.ListN.{getD, set, replicate}
 use lib.Dec.{eqb}
-use lib.IntN.{pos}
 use Rattle.key.specs.Bytes.{Bytes, sameBytes}
 use Rattle.key.specs.Keys.{Key}
 use Rattle.resp.specs.Request.{Reading, waits, faulty, tooMany, whole, readRequest, spanned}
-use Rattle.resp.specs.Reply.{Reply, Integer, NilArray, array, bulkOr, ok, encode}
-use Rattle.memtable.specs.Table.{Value, Reader, Write, Table, keysOf, find, writeAll}
-use Rattle.batch.specs.Group.{Pending, among}
+use Rattle.resp.specs.Reply.{Reply, NilArray, array, ok, encode}
+use Rattle.memtable.specs.Table.{Write, Table, find, writeAll}
+use Rattle.batch.specs.Group.{Pending}
 use Rattle.batch.specs.Members.{pendingOf}
 use Rattle.server.specs.Names.{Args, rowOf, nameWord, arguments, Control, MULTI, EXEC, DISCARD, WATCH, UNWATCH, QUIT, other, controlOf}
-use Rattle.server.specs.Command.{Command, GET, SET, DEL, EXISTS, MGET, MSET, COUNT, FIXED, Listing, Executed, runs, lists, executedOf, commandOf, liveOne, run, answerListing, checks}
+use Rattle.server.specs.Command.{Command, Listing, Executed, runs, lists, executedOf, commandOf, run, answerListing}
 use Rattle.server.specs.Session.{queuedReply, execAbort}
 use Rattle.calls.specs.Serve.{Outcome}
 use Rattle.calls.specs.Calls.{Call, request, grouped}
@@ -49,11 +48,11 @@ beginsArray (b ∷ s) = eqb b 42
 unfoldable pub isArray : Bytes → Bool
 isArray b = beginsArray b && not (isReply NilArray b)
 
--- THE HISTORY. A command alone with its reply; a listing; an EXEC's watched keys, commands and reply; an accepted member's writes.
+-- THE HISTORY. A command alone with its reply; a listing; an EXEC's commands and reply; an accepted member's writes.
 pub data Item : Type 0 where
   alone : Command → Bytes → Item
   listed : Listing → Bytes → Item
-  exec : List Key → List Command → Bytes → Item
+  exec : List Command → Bytes → Item
   member : List Write → Item
 
 -- For each session a queue, at first closed, and the keys named in a WATCH answered `+OK` and not dropped since.
@@ -86,7 +85,7 @@ itemAlone (lists l) b = listed l b
 -- an open queue: EXEC answered by an array posts it; `*-1` or `EXECABORT` only close it
 unfoldable pub turnExec : List Args → Bytes → Client → Turn
 turnExec q b d =
-    cond (isArray b) (record { client = closed; items = exec (d .watched) (map commandOf q) b ∷ [] })
+    cond (isArray b) (record { client = closed; items = exec (map commandOf q) b ∷ [] })
     (onlyIf (isReply NilArray b || isReply execAbort b) d closed)
 
 -- a request that did not return a number, by its name and the client's queue
@@ -155,7 +154,7 @@ postReplies t (c ∷ cs) = let e = run (find t) c in e .0 ∷ postReplies (write
 unfoldable pub post : Item → Table → Table
 post (alone c b) t = writeAll (run (find t) c .1) t
 post (listed l b) t = t
-post (exec watched q b) t = writeAll (postQueue t q) t
+post (exec q b) t = writeAll (postQueue t q) t
 post (member ws) t = writeAll ws t
 
 -- the table after a history
@@ -163,57 +162,11 @@ unfoldable pub postAll : List Item → Table → Table
 postAll [] t = t
 postAll (x ∷ xs) t = postAll xs (post x t)
 
--- THE CLAIM ON REPLIES. The keys that demand 3 covers inside an EXEC: watched, written or checked
-unfoldable pub checksOf : List Command → List Key
-checksOf [] = []
-checksOf (c ∷ cs) = checks c ++ checksOf cs
-
--- watched, written or checked
-abbrev pub covered : List Key → List Write → List Command → List Key
-covered watched ws q = watched ++ (keysOf ws ++ checksOf q)
-
--- EXISTS counts covered keys as posted, and at most one for each other argument
-unfoldable pub liveCovered : List Key → Reader → List Key → ℕ
-liveCovered cov r [] = 0
-liveCovered cov r (k ∷ ks) = cond (among cov k) (liveOne (r k)) 0 + liveCovered cov r ks
-
--- how many of the keys are not covered
-unfoldable pub uncovered : List Key → List Key → ℕ
-uncovered cov [] = 0
-uncovered cov (k ∷ ks) = cond (among cov k) 0 1 + uncovered cov ks
-
--- the items of an MGET
-abbrev pub ItemsAsPosted : List Key → Reader → List Key → List (Option Value) → Type 0
-ItemsAsPosted cov r [] [] = Unit {0}
-ItemsAsPosted cov r [] (v ∷ vs) = ⊥
-ItemsAsPosted cov r (k ∷ ks) [] = ⊥
-ItemsAsPosted cov r (k ∷ ks) (v ∷ vs) = (among cov k ≡ true → v ≡ r k) × ItemsAsPosted cov r ks vs
-
--- a reply inside EXEC is as posted: equal, and for GET, MGET and EXISTS equal for the covered keys
-abbrev pub AsPosted : List Key → Reader → Command → Reply → Type 0
-AsPosted cov r (GET k) p = (v : Option Value) × (p ≡ bulkOr v) × (among cov k ≡ true → v ≡ r k)
-AsPosted cov r (MGET ks) p = (vs : List (Option Value)) × (p ≡ array (map bulkOr vs)) × ItemsAsPosted cov r ks vs
-AsPosted cov r (EXISTS ks) p =
-    (n : ℕ) × (p ≡ Integer (pos n)) × (liveCovered cov r ks ≤ n) × (n ≤ liveCovered cov r ks + uncovered cov ks)
-AsPosted cov r (SET k v) p = p ≡ run r (SET k v) .0
-AsPosted cov r (DEL ks) p = p ≡ run r (DEL ks) .0
-AsPosted cov r (MSET es) p = p ≡ run r (MSET es) .0
-AsPosted cov r (COUNT k by) p = p ≡ run r (COUNT k by) .0
-AsPosted cov r (FIXED x) p = p ≡ run r (FIXED x) .0
-
--- command by command, each on the table that the one before it left
-abbrev pub AllAsPosted : List Key → Table → List Command → List Reply → Type 0
-AllAsPosted cov t [] [] = Unit {0}
-AllAsPosted cov t [] (p ∷ ps) = ⊥
-AllAsPosted cov t (c ∷ cs) [] = ⊥
-AllAsPosted cov t (c ∷ cs) (p ∷ ps) = AsPosted cov (find t) c p × AllAsPosted cov (writeAll (run (find t) c .1) t) cs ps
-
--- the bytes of the reply: an EXEC's are an array of one item for each command, and equal for all keys where nothing is watched
+-- THE CLAIM ON REPLIES. The bytes of the reply: an EXEC's are an array of one item for each command
 abbrev pub Holds : Item → Table → Type 0
 Holds (alone c b) t = b ≡ encode (run (find t) c .0)
 Holds (listed l b) t = b ≡ encode (answerListing t l)
-Holds (exec watched q b) t =
-    (ps : List Reply) × (b ≡ encode (array ps)) × AllAsPosted (covered watched (postQueue t q) q) t q ps × (watched ≡ [] → ps ≡ postReplies t q)
+Holds (exec q b) t = b ≡ encode (array (postReplies t q))
 Holds (member ws) t = Unit {0}
 
 -- every item of a history, each on the table that the one before it left

@@ -1,5 +1,5 @@
 -- What each EXEC is answered, by the calls, their answers and posting's table alone (document 01, demand 3).
--- First which keys are written and checked, then which requests mark a session, then the answer to EXEC.
+-- First which keys are written, then which requests mark a session, then the answer to EXEC.
 use Prim.Native.Nat.{ℕ}
 use mathlib.Core.List.{List, [], _∷_, _++_, map}
 use mathlib.Core.Bool.{Bool, true, false, not, _&&_, _||_}
@@ -18,7 +18,7 @@ use Rattle.server.specs.Command.{Command, GET, SET, DEL, EXISTS, MGET, MSET, CO
 use Rattle.server.specs.Session.{queuedReply, execAbort}
 use Rattle.calls.specs.Serve.{Outcome}
 use Rattle.calls.specs.Calls.{Call, request, grouped}
-use Rattle.calls.specs.Posting.{Asked, nothing, broken, asks, askedBy, isReply, Item, alone, listed, exec, member, Client, closed, enter, postQueue, postReplies, post, postAll, checksOf}
+use Rattle.calls.specs.Posting.{Asked, nothing, broken, asks, askedBy, isReply, Item, alone, listed, exec, member, Client, closed, Entered, enter, postQueue, postReplies, post, postAll}
 
 -- THE KEYS WRITTEN. The keys that a command other than a counter writes
 unfoldable pub setKeys : Command → List Key
@@ -31,27 +31,17 @@ setKeys (MSET es) = map (λ (e : Entry Value). e .0) es
 setKeys (COUNT k by) = []
 setKeys (FIXED r) = []
 
--- the same of a queue
-unfoldable pub setKeysOf : List Command → List Key
-setKeysOf [] = []
-setKeysOf (c ∷ cs) = setKeys c ++ setKeysOf cs
-
 -- the keys that an item writes on posting's table
 unfoldable pub itemKeys : Item → Table → List Key
 itemKeys (alone c b) t = keysOf (run (find t) c .1)
 itemKeys (listed l b) t = []
-itemKeys (exec watched q b) t = keysOf (postQueue t q)
+itemKeys (exec q b) t = keysOf (postQueue t q)
 itemKeys (member ws) t = keysOf ws
 
 -- the keys that a history writes
 unfoldable pub writtenIn : List Item → Table → List Key
 writtenIn [] t = []
 writtenIn (x ∷ xs) t = itemKeys x t ++ writtenIn xs (post x t)
-
--- THE KEYS ON WHICH AN EXEC TURNS: watched, or written or checked by its commands. No stored value alters them: a counter writes no key
--- but its own, and checks that.
-abbrev pub heldBy : List Key → List Command → List Key
-heldBy watched q = watched ++ (setKeysOf q ++ checksOf q)
 
 -- THE MARK. Inside MULTI these are queued or refused: a command, and UNWATCH
 abbrev pub queues : Control → Bool
@@ -83,25 +73,18 @@ unfoldable pub marks : ℕ → Call → Outcome → List Client → Bool
 marks i (request j s places room) o ds = eqb j i && marksBy (getD ds i closed .queue) (askedBy s (readRequest places s)) o
 marks i (grouped ms parts d verdicts) o ds = false
 
--- THE TRANSACTION of a session: the table that its EXEC reads, the keys written since the first WATCH in force, and the mark
+-- THE TRANSACTION of a session: the watched keys that were written since their WATCH in force, and the mark
 pub record Transaction : Type 0 where
-  pub snapshot : Table
-  pub since : List Key
+  pub stale : Key → Bool
   pub marked : Bool
 
 -- before any call
 abbrev pub newTransaction : Transaction
-newTransaction = record { snapshot = []; since = []; marked = false }
+newTransaction = record { stale = λ k. false; marked = false }
 
--- the snapshot, by the keys watched after a call and the table after it: the table of the first WATCH in force, and without one the table now
-unfoldable pub snapshotAfter : List Key → Table → Table → Table
-snapshotAfter [] snapshot now = now
-snapshotAfter (k ∷ ks) snapshot now = snapshot
-
--- the keys written since, by the keys watched after a call and those that it wrote
-unfoldable pub sinceAfter : List Key → List Key → List Key → List Key
-sinceAfter [] since written = []
-sinceAfter (k ∷ ks) since written = since ++ written
+-- whether k is watched by session i after a call and was written since its WATCH; `e` is what posting makes of the call
+abbrev pub staleIn : ℕ → Key → Entered → Table → Bool → Bool
+staleIn i k e t stale = among (getD (e .clients) i closed .watched) k && (stale || among (writtenIn (e .items) t) k)
 
 -- outside MULTI there is no mark
 unfoldable pub markedAfter : Option (List Args) → Bool → Bool
@@ -112,11 +95,9 @@ markedAfter (some q) marked = marked
 abbrev pub transactionAfter : ℕ → Call → Outcome → List Client → Table → Transaction → Transaction
 transactionAfter i c o ds t x =
     let e = enter c o ds in
-    let d = getD (e .clients) i closed in
     record {
-      snapshot = snapshotAfter (d .watched) (x .snapshot) (postAll (e .items) t);
-      since = sinceAfter (d .watched) (x .since) (writtenIn (e .items) t);
-      marked = markedAfter (d .queue) (x .marked || marks i c o ds);
+      stale = λ k. staleIn i k e t (x .stale k);
+      marked = markedAfter (getD (e .clients) i closed .queue) (x .marked || marks i c o ds);
     }
 
 -- THE ANSWER TO EXEC. The request is an EXEC
@@ -140,11 +121,11 @@ abbrev pub Executes : ℕ → Call → Outcome → Type 0
 Executes i (request j s places room) o = (j ≡ i) × (o .number ≡ 0) × (asksExec (askedBy s (readRequest places s)) ≡ true)
 Executes i (grouped ms parts d verdicts) o = ⊥
 
--- a key on which the EXEC turns was written since
-abbrev pub conflicted : List Key → Client → List Args → Bool
-conflicted since d q = anyKey (among since) (heldBy (d .watched) (map commandOf q))
+-- a key that the EXEC watches was written since its WATCH
+abbrev pub conflicted : (Key → Bool) → Client → Bool
+conflicted stale d = anyKey stale (d .watched)
 
--- by the mark, then by the conflict: EXECABORT, `*-1`, and otherwise an array of the replies that posting gives on the snapshot
+-- by the mark, then by the conflict: EXECABORT, `*-1`, and otherwise an array of the replies that posting gives
 unfoldable pub execReply : Bool → Bool → Table → List Args → Reply
 execReply true conflict t q = execAbort
 execReply false true t q = NilArray
@@ -156,5 +137,5 @@ VerdictsPosted i [] os ds t x = Unit {0}
 VerdictsPosted i (c ∷ cs) [] ds t x = Unit {0}
 VerdictsPosted i (c ∷ cs) (o ∷ os) ds t x =
     ((q : List Args) → getD ds i closed .queue ≡ some q → Executes i c o →
-    o .reply ≡ encode (execReply (x .marked) (conflicted (x .since) (getD ds i closed) q) (x .snapshot) q))
+    o .reply ≡ encode (execReply (x .marked) (conflicted (x .stale) (getD ds i closed)) t q))
     × VerdictsPosted i cs os (enter c o ds .clients) (postAll (enter c o ds .items) t) (transactionAfter i c o ds t x)

@@ -13,7 +13,7 @@ use Rattle.resp.specs.Reply.{Reply, err}
 use Rattle.memtable.specs.Table.{Reader}
 use Rattle.server.specs.Names.{Args, Row, rows, rowIn, rowOf, nameWord, arguments, countRight, arity, sameName}
 use Rattle.resp.specs.Letters.{lower}
-use Rattle.server.specs.Command.{Executed, runs, fixed, executedAs, executedOf, commandIn, commandOf, pairsOf, unknownCommand, run, checks}
+use Rattle.server.specs.Command.{Executed, runs, fixed, executedAs, executedOf, commandIn, commandOf, pairsOf, unknownCommand, run}
 use Rattle.server.specs.Errors.{arityOf}
 use Rattle.server.proofs.ErrorTexts.{arity-as-sent}
 use Rattle.command.specs.declared.Command.{Command as CodeCommand}
@@ -26,7 +26,7 @@ use Rattle.command.specs.declared.Read.{Read}
 use Rattle.command.specs.declared.Read.the-variants.{Value, Live, Values, Echo, Says, Arity, Unknown, Nothing}
 use Rattle.command.specs.declared.Kind.{Kind}
 use Rattle.command.specs.declared.Kind.the-variants.{Pairs, Tombstones, Counter, Reads}
-use Rattle.command.specs.Kinds.{kindMeant, kindExecuted, liveReply, readReply, leastRead, pairsEffect, tombstonesEffect, counterEffect, kindEffect, kindChecks, KindCounted, KindIs}
+use Rattle.command.specs.Kinds.{kindMeant, kindExecuted, liveReply, readReply, leastRead, pairsEffect, tombstonesEffect, counterEffect, kindEffect, KindCounted, KindIs}
 
 -- A WRONG ARGUMENT COUNT: each row has a count that it refuses, or its name is unknown to `execute`
 data Told : Row → Type 0 where
@@ -106,20 +106,6 @@ command-effect (command.Says f) a r h x = refl
 command-effect command.Arity a r h x = ap (λ (p : Reply). (p, [])) (arity-sent a x)
 command-effect command.Unknown a r h x = refl
 
-command-checks : (c : CodeCommand) (a : Args) → checks (commandMeant c a) ≡ kindChecks (kindMeant c) a
-unfolding commandMeant checks kindMeant kindChecks
-command-checks command.Get a = refl
-command-checks command.Set a = refl
-command-checks command.Del a = refl
-command-checks command.Exists a = refl
-command-checks command.Mget a = refl
-command-checks command.Mset a = refl
-command-checks (command.Count by) a = refl
-command-checks command.Echo a = refl
-command-checks (command.Says f) a = refl
-command-checks command.Arity a = refl
-command-checks command.Unknown a = refl
-
 pub command-counted : (c : CodeCommand) (count : ℕ) → CommandCounted c count → KindCounted (kindMeant c) count
 unfolding CommandCounted kindMeant KindCounted leastRead
 command-counted command.Get count h = omega arith
@@ -135,18 +121,16 @@ command-counted command.Arity count h = h
 command-counted command.Unknown count h = h
 
 pub kind-is : (a : Args) (count : ℕ) {e : CodeExecuted} {k : Kind} → length a ≡ count → 1 ≤ count → ExecutedIs a count e → k ≡ kindExecuted e → KindIs a count k
-unfolding commandOf executedMeant Counted kindExecuted run checks kindEffect kindChecks KindCounted readReply leastRead
+unfolding commandOf executedMeant Counted kindExecuted run kindEffect KindCounted readReply leastRead
 kind-is a count {e} {k} long least x k-is = rw k-is (go e (x .is) (x .counted))
   where
     go : (e : CodeExecuted) → executedOf a ≡ executedMeant e a → Counted e count → KindIs a count (kindExecuted e)
     go (Runs c) is h = record {
       effect = λ r. ap (λ (t : Executed). run r (commandIn t)) is ∙ command-effect c a r (rw long h) is;
-      checked = ap (λ (t : Executed). checks (commandIn t)) is ∙ command-checks c a;
       counted = command-counted c count h;
     }
     go (Lists l) is h = record {
       effect = λ r. ap (λ (t : Executed). run r (commandIn t)) is;
-      checked = ap (λ (t : Executed). checks (commandIn t)) is;
       counted = least;
     }
 

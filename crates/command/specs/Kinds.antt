@@ -7,7 +7,7 @@ use Rattle.key.specs.Keys.{Key}
 use Rattle.resp.specs.Reply.{Reply, Integer, BulkString, Nil, array, bulkOr, ok}
 use Rattle.memtable.specs.Table.{Reader}
 use Rattle.server.specs.Names.{Args, nameWord, arguments}
-use Rattle.server.specs.Command.{Effect, argument, pairsOf, unknownCommand, commandOf, live, held, raised, tombstone, put, run, checks}
+use Rattle.server.specs.Command.{Effect, argument, pairsOf, unknownCommand, commandOf, live, held, raised, tombstone, put, run}
 use Rattle.server.specs.Errors.{fixedReply, arityOf}
 use Rattle.command.specs.declared.Command.{Command as CodeCommand}
 use Rattle.command.specs.declared.Command.the-variants as command
@@ -83,13 +83,6 @@ kindEffect Tombstones r a = tombstonesEffect r a
 kindEffect (Counter by) r a = counterEffect by r a
 kindEffect (Reads q) r a = (readReply q r a, [])
 
--- the keys that are checked besides
-unfoldable pub kindChecks : Kind → Args → List Key
-kindChecks Pairs a = []
-kindChecks Tombstones a = []
-kindChecks (Counter by) a = argument 1 a ∷ []
-kindChecks (Reads q) a = []
-
 -- the argument count, the name counted
 unfoldable pub KindCounted : Kind → ℕ → Type 0
 KindCounted Pairs count = InPairs count
@@ -100,5 +93,4 @@ KindCounted (Reads q) count = leastRead q ≤ count
 -- what the command of these arguments does
 pub record KindIs (a : Args) (count : ℕ) (k : Kind) : Type 0 where
   pub effect : (r : Reader) → run r (commandOf a) ≡ kindEffect k r a
-  pub checked : checks (commandOf a) ≡ kindChecks k a
   pub counted : KindCounted k count

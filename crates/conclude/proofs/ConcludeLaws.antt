@@ -11,7 +11,7 @@ use Rattle.writing.specs.declared.Put.{Put}
 use Rattle.writing.specs.declared.Put.the-variants.{Wrote, Full}
 use Rattle.writing.specs.Puts.{Puts}
 use Rattle.writing.proofs.Puts.{length-kept}
-use Rattle.resp.specs.Reply.{Reply, NilArray, encode}
+use Rattle.resp.specs.Reply.{Reply, encode}
 use Rattle.memtable.specs.Table.{Write}
 use Rattle.memtable.specs.Versions.{Store, versionsSize, commit}
 use Rattle.memtable.specs.Layout.{storeIn, leaveWords, leaveBytes}
@@ -32,7 +32,7 @@ use Rattle.memtable.proofs.TableLaws.{Ascending}
 use Rattle.own.specs.Own.{ownWrites, Own}
 use Rattle.own.proofs.Growing.{own-count, own-sizes}
 use Rattle.answer.specs.Answers.{refusal}
-use Rattle.conclude.specs.Leaving.{Leaves, Closes, NilCloses, Commits, concluded, Concludes}
+use Rattle.conclude.specs.Leaving.{Leaves, Closes, Commits, concluded, Concludes}
 use Rattle.answer.proofs.Finish.{finish-wrote, says-wrote, finish-full, full-cleared, says-number}
 
 -- the same call under another name
@@ -69,14 +69,6 @@ module _ {put : Put} (used : ℕ) {s : List ℕ} where
         renamed out w b s sb (finish-full x p used (storeIn w b) (storeIn w b) (sessionFrom s sb) clear e)
         (rw r-is (all-left 3 out w b s sb v h (full-cleared x p used (storeIn w b) (storeIn w b) (sessionFrom s sb) clear e)));
   }
-
--- `*-1`
-pub nil-closes : (used : ℕ) (mid s : List ℕ) {clean : Bytes} {put : Put} {out′ : Bytes} {s′ : List ℕ} {r : Answer} → clean ≡ replicate (length mid) 0 → Puts (encode NilArray) clean put out′ → Closes put used s s′ r
-    → NilCloses used mid s s′ r out′
-nil-closes used mid s {clean} {put} {out′} c-is p c = record {
-  leaves = λ w b out sb v z l h. c .leaves NilArray w b out out′ sb v z
-      (subst (λ (x : Bytes). Puts (encode NilArray) x put out′) (c-is ∙ ap (λ (n : ℕ). replicate n 0) l ∙ sym z) p) h;
-}
 
 -- WITH WRITES
 module _ (ws : List Write) {put : Put} (used : ℕ) (w b : List ℕ) {s : List ℕ} where
@@ -118,32 +110,18 @@ pub own-bytes : (own : List ℕ) (d : Bytes) (rows : ℕ) (w b : List ℕ) {b′
 unfolding ownWrites
 own-bytes own d rows w b e = e
 
-module _ {c : Bool} (x : Reply) (st : Store) (s : Session) (ws : List Write) where
-  nil-is : c ≡ true → concluded c x st s ws ≡ says NilArray st clear
+module _ (x : Reply) (st : Store) (s : Session) (ws : List Write) where
+  no-room-is : hasRoom st ws ≡ false → concluded x st s ws ≡ returns 6 st s
   unfolding concluded
-  nil-is e = rw e
+  no-room-is e = rw e
 
-  module _ (c-no : c ≡ false) where
-    no-room-is : hasRoom st ws ≡ false → concluded c x st s ws ≡ returns 6 st s
-    unfolding concluded
-    no-room-is e = rw (c-no, e)
+  no-sequences-is : hasRoom st ws ≡ true → hasSequences st ws ≡ false → concluded x st s ws ≡ returns 7 st s
+  unfolding concluded
+  no-sequences-is e f = rw (e, f)
 
-    no-sequences-is : hasRoom st ws ≡ true → hasSequences st ws ≡ false → concluded c x st s ws ≡ returns 7 st s
-    unfolding concluded
-    no-sequences-is e f = rw (c-no, e, f)
-
-    commits-is : hasRoom st ws ≡ true → hasSequences st ws ≡ true → concluded c x st s ws ≡ says x (commit ws st) clear
-    unfolding concluded
-    commits-is e f = rw (c-no, e, f)
-
--- A CONFLICT, whatever room there is
-pub concludes-nil : (ws : List Write) (put : Put) (used : ℕ) (w b s : List ℕ) (mid : Bytes) {c : Bool} {out′ : Bytes} {s′ : List ℕ} {r : Answer} → Valid w b → c ≡ true → NilCloses used mid s s′ r out′
-    → Concludes c ws put used w b s mid w b s′ out′ r
-concludes-nil ws put used w b s mid v e n = record {
-  leaves = λ x out sb z p h.
-      renamed out w b s sb (ap (λ (f : Done). finish (length out) used f (storeIn w b) (sessionFrom s sb)) (nil-is x (storeIn w b) (sessionFrom s sb) ws e))
-      (n .leaves w b out sb v z (length-kept p) h);
-}
+  commits-is : hasRoom st ws ≡ true → hasSequences st ws ≡ true → concluded x st s ws ≡ says x (commit ws st) clear
+  unfolding concluded
+  commits-is e f = rw (e, f)
 
 module _ (own : List ℕ) (d : Bytes) (rows : ℕ) (o : Own own d rows) (w b : List ℕ) (v : Valid w b) {t : Bool} (t-is : t ≡ roomIn w rows (sizesFrom own 0 rows)) where
   room-agrees : hasRoom (storeIn w b) (ownWrites own d rows) ≡ t
@@ -160,9 +138,9 @@ module _ (own : List ℕ) (d : Bytes) (rows : ℕ) (o : Own own d rows) (w b : L
     pub room-for : not q ≡ false → RoomFor w rows (sizesFrom own 0 rows)
     room-for e = room-granted w rows (sizesFrom own 0 rows) t-is (not-false t yes-room) (q-is ∙ ap (λ (k : ℕ). ltb (k + rows) (2 ^ 64)) last-is) (not-false q e)
 
-  module _ (put : Put) (used : ℕ) (s : List ℕ) (mid : Bytes) {c : Bool} (c-no : c ≡ false) where
-    refused : (n : ℕ) {out′ : Bytes} {r : Answer} → ((x : Reply) (sb : Bytes) → concluded c x (storeIn w b) (sessionFrom s sb) (ownWrites own d rows) ≡ returns n (storeIn w b) (sessionFrom s sb))
-        → r ≡ refusal n → out′ ≡ replicate (length mid) 0 → Concludes c (ownWrites own d rows) put used w b s mid w b s out′ r
+  module _ (put : Put) (used : ℕ) (s : List ℕ) (mid : Bytes) where
+    refused : (n : ℕ) {out′ : Bytes} {r : Answer} → ((x : Reply) (sb : Bytes) → concluded x (storeIn w b) (sessionFrom s sb) (ownWrites own d rows) ≡ returns n (storeIn w b) (sessionFrom s sb))
+        → r ≡ refusal n → out′ ≡ replicate (length mid) 0 → Concludes (ownWrites own d rows) put used w b s mid w b s out′ r
     unfolding finish finishBy
     refused n {out′} is r-is z-is = record {
       leaves = λ x out sb z p h.
@@ -170,22 +148,22 @@ module _ (own : List ℕ) (d : Bytes) (rows : ℕ) (o : Own own d rows) (w b : L
           (rw r-is (all-left n out w b s sb v h (z-is ∙ ap (λ (k : ℕ). replicate k 0) (length-kept p))));
     }
 
-    pub no-room : {out′ : Bytes} {r : Answer} → not t ≡ true → r ≡ refusal 6 → out′ ≡ replicate (length mid) 0 → Concludes c (ownWrites own d rows) put used w b s mid w b s out′ r
-    no-room e r-is z = refused 6 (λ x sb. no-room-is x (storeIn w b) (sessionFrom s sb) (ownWrites own d rows) c-no (room-agrees ∙ not-true t e)) r-is z
+    pub no-room : {out′ : Bytes} {r : Answer} → not t ≡ true → r ≡ refusal 6 → out′ ≡ replicate (length mid) 0 → Concludes (ownWrites own d rows) put used w b s mid w b s out′ r
+    no-room e r-is z = refused 6 (λ x sb. no-room-is x (storeIn w b) (sessionFrom s sb) (ownWrites own d rows) (room-agrees ∙ not-true t e)) r-is z
 
     module _ {q : Bool} {last : ℕ} (yes-room : not t ≡ false) (last-is : last ≡ getD w 2 0) (q-is : q ≡ ltb (last + rows) (2 ^ 64)) where
-      pub no-sequences : {out′ : Bytes} {r : Answer} → not q ≡ true → r ≡ refusal 7 → out′ ≡ replicate (length mid) 0 → Concludes c (ownWrites own d rows) put used w b s mid w b s out′ r
+      pub no-sequences : {out′ : Bytes} {r : Answer} → not q ≡ true → r ≡ refusal 7 → out′ ≡ replicate (length mid) 0 → Concludes (ownWrites own d rows) put used w b s mid w b s out′ r
       no-sequences e r-is z =
           refused 7
-          (λ x sb. no-sequences-is x (storeIn w b) (sessionFrom s sb) (ownWrites own d rows) c-no (room-agrees ∙ not-false t yes-room) (sequences-agree yes-room last-is q-is ∙ not-true q e))
+          (λ x sb. no-sequences-is x (storeIn w b) (sessionFrom s sb) (ownWrites own d rows) (room-agrees ∙ not-false t yes-room) (sequences-agree yes-room last-is q-is ∙ not-true q e))
           r-is z
 
       pub concludes-commits : {w′ b′ s′ : List ℕ} {r : Answer} → not q ≡ false → Commits (ownWrites own d rows) put used w b s w′ b′ s′ r
-          → Concludes c (ownWrites own d rows) put used w b s mid w′ b′ s′ mid r
+          → Concludes (ownWrites own d rows) put used w b s mid w′ b′ s′ mid r
       concludes-commits e k = record {
         leaves = λ x out sb z p h.
             renamed out w b s sb
             (ap (λ (f : Done). finish (length out) used f (storeIn w b) (sessionFrom s sb))
-            (commits-is x (storeIn w b) (sessionFrom s sb) (ownWrites own d rows) c-no (room-agrees ∙ not-false t yes-room) (sequences-agree yes-room last-is q-is ∙ not-false q e)))
+            (commits-is x (storeIn w b) (sessionFrom s sb) (ownWrites own d rows) (room-agrees ∙ not-false t yes-room) (sequences-agree yes-room last-is q-is ∙ not-false q e)))
             (k .leaves x out mid sb v z p h);
       }

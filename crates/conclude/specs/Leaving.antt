@@ -1,13 +1,13 @@
 -- What the functions at the end of an EXEC leave: the call answered, the session cleared, the writes committed.
 use Prim.Native.Nat.{ℕ}
 use mathlib.Core.Path.{_≡_}
-use mathlib.Core.Bool.{Bool, cond}
+use mathlib.Core.Bool.{cond}
 use mathlib.Core.List.{List}
 use lib.ListN.{length, replicate}
 use Rattle.key.specs.Bytes.{Bytes}
 use Rattle.writing.specs.declared.Put.{Put}
 use Rattle.writing.specs.Puts.{Puts}
-use Rattle.resp.specs.Reply.{Reply, NilArray, encode}
+use Rattle.resp.specs.Reply.{Reply, encode}
 use Rattle.memtable.specs.Table.{Write}
 use Rattle.memtable.specs.Versions.{Store, commit}
 use Rattle.memtable.specs.Layout.{storeIn}
@@ -36,16 +36,10 @@ pub record Commits (ws : List Write) (put : Put) (used : ℕ) (w b s w′ b′ s
   pub leaves : (x : Reply) (out mid sb : Bytes) → Valid w b → out ≡ replicate (length out) 0 → Puts (encode x) out put mid → Held s sb
       → Leaves (finish (length out) used (says x (commit ws (storeIn w b)) clear) (storeIn w b) (sessionFrom s sb)) out w b s sb r mid w′ b′ s′
 
--- `*-1` in a buffer that is cleared first, with the store as it was
-pub record NilCloses (used : ℕ) (mid : Bytes) (s s′ : List ℕ) (r : Answer) (out′ : Bytes) : Type 0 where
-  pub leaves : (w b out sb : Bytes) → Valid w b → out ≡ replicate (length out) 0 → length mid ≡ length out → Held s sb
-      → Leaves (finish (length out) used (says NilArray (storeIn w b) clear) (storeIn w b) (sessionFrom s sb)) out w b s sb r out′ w b s′
+-- an EXEC after its queue: 6, 7, or its reply and its writes
+unfoldable pub concluded : Reply → Store → Session → List Write → Done
+concluded x st s ws = cond (hasRoom st ws) (cond (hasSequences st ws) (says x (commit ws st) clear) (returns 7 st s)) (returns 6 st s)
 
--- an EXEC after its queue: `*-1` where a key has moved, 6, 7, or its reply and its writes
-unfoldable pub concluded : Bool → Reply → Store → Session → List Write → Done
-concluded conflict x st s ws =
-    cond conflict (says NilArray st clear) (cond (hasRoom st ws) (cond (hasSequences st ws) (says x (commit ws st) clear) (returns 7 st s)) (returns 6 st s))
-
-pub record Concludes (conflict : Bool) (ws : List Write) (put : Put) (used : ℕ) (w b s : List ℕ) (mid : Bytes) (w′ b′ s′ : List ℕ) (out′ : Bytes) (r : Answer) : Type 0 where
+pub record Concludes (ws : List Write) (put : Put) (used : ℕ) (w b s : List ℕ) (mid : Bytes) (w′ b′ s′ : List ℕ) (out′ : Bytes) (r : Answer) : Type 0 where
   pub leaves : (x : Reply) (out sb : Bytes) → out ≡ replicate (length out) 0 → Puts (encode x) out put mid → Held s sb
-      → Leaves (finish (length out) used (concluded conflict x (storeIn w b) (sessionFrom s sb) ws) (storeIn w b) (sessionFrom s sb)) out w b s sb r out′ w′ b′ s′
+      → Leaves (finish (length out) used (concluded x (storeIn w b) (sessionFrom s sb) ws) (storeIn w b) (sessionFrom s sb)) out w b s sb r out′ w′ b′ s′

@@ -1,5 +1,4 @@
 // The end of an EXEC: the answer, the commit, and the session cleared.
-use encode::reply;
 use server::Answer;
 use writing::Put;
 ghost use mathlib.Core.Path.{_≡_};
@@ -9,11 +8,11 @@ ghost use Rattle.memtable.specs.Layout.{storeIn, leaveWords, leaveBytes};
 ghost use Rattle.memtable.specs.Rows.{Valid};
 ghost use Rattle.batch.specs.Settling.{RoomFor, sizesFrom};
 ghost use Rattle.own.specs.Own.{ownWrites, Own};
-ghost use Rattle.conclude.specs.Leaving.{Closes, NilCloses, Commits, Concludes};
+ghost use Rattle.conclude.specs.Leaving.{Closes, Commits, Concludes};
 
 // The answer to an EXEC that writes nothing, whose reply was put: 3 where it does not fit.
 pub fn close(session_words: &mut [u64], put: Put, used: usize) -> Answer
-    requires { ⌜ length (now «session_words») ≡ 613 ⌝ }
+    requires { ⌜ length (now «session_words») ≡ 645 ⌝ }
     ensures { λ r. ⌜ Closes put used (now («session_words» .entry)) (now («session_words» .exit)) r ⌝ }
 {
     let Put::Wrote(n) = put else {
@@ -25,16 +24,6 @@ pub fn close(session_words: &mut [u64], put: Put, used: usize) -> Answer
         used: used,
         reply: n,
     }
-}
-
-// Answers `*-1` in place of what was put, and clears the session.
-pub fn close_nil(session_words: &mut [u64], out: &mut [u8], used: usize) -> Answer
-    requires { ⌜ length (now «session_words») ≡ 613 ⌝ }
-    ensures { λ r. ⌜ NilCloses used (now (out .entry)) (now («session_words» .entry)) (now («session_words» .exit)) r (now (out .exit)) ⌝ }
-{
-    writing::clear(out);
-    let put = reply::put_nil_array(out);
-    close(session_words, put, used)
 }
 
 // Commits the own writes.
@@ -59,7 +48,7 @@ fn commit_reply(
     put: Put,
     used: usize,
 ) -> Answer
-    requires { ⌜ length (now session) ≡ 613 ⌝ }
+    requires { ⌜ length (now session) ≡ 645 ⌝ }
     requires { ⌜ Own (now own) (now «data») rows ⌝ }
     requires { ⌜ Valid (now words) (now bytes) ⌝ }
     requires { ⌜ RoomFor (now words) rows (sizesFrom (now own) 0 rows) ⌝ }
@@ -77,10 +66,9 @@ fn commit_reply(
     }
 }
 
-// The answer to an EXEC whose queue has run: conflict comes before 6 and 7, and these before 3.
+// The answer to an EXEC whose queue has run: 6 and 7 come before 3.
 pub fn conclude(
     session_words: &mut [u64],
-    conflict: bool,
     own: &[u64],
     rows: usize,
     data: &[u8],
@@ -90,14 +78,11 @@ pub fn conclude(
     put: Put,
     used: usize,
 ) -> Answer
-    requires { ⌜ length (now «session_words») ≡ 613 ⌝ }
+    requires { ⌜ length (now «session_words») ≡ 645 ⌝ }
     requires { ⌜ Own (now own) (now «data») rows ⌝ }
     requires { ⌜ Valid (now words) (now bytes) ⌝ }
-    ensures { λ r. ⌜ Concludes conflict (ownWrites (now (own .entry)) (now («data» .entry)) rows) put used (now (words .entry)) (now (bytes .entry)) (now («session_words» .entry)) (now (out .entry)) (now (words .exit)) (now (bytes .exit)) (now («session_words» .exit)) (now (out .exit)) r ⌝ }
+    ensures { λ r. ⌜ Concludes (ownWrites (now (own .entry)) (now («data» .entry)) rows) put used (now (words .entry)) (now (bytes .entry)) (now («session_words» .entry)) (now (out .entry)) (now (words .exit)) (now (bytes .exit)) (now («session_words» .exit)) (now (out .exit)) r ⌝ }
 {
-    if conflict {
-        return close_nil(session_words, out, used);
-    }
     if !settle::has_room(own, 0, rows, words) {
         return answer::refuse(out, 6);
     }

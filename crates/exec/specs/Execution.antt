@@ -1,17 +1,15 @@
--- EXEC as bytes, and what its functions before the end leave: the working memory laid out, and the sequence at which it reads.
+-- EXEC as bytes, and what its functions before the end leave: the working memory laid out.
 use Prim.Native.Nat.{ℕ, _+_, _≤_}
 use mathlib.Core.Path.{_≡_}
 use mathlib.Core.Bool.{true, false}
 use mathlib.Core.List.{List, map}
 use lib.ListN.{length, getD, take, replicate}
 use Rattle.key.specs.Bytes.{Bytes, part}
-use Rattle.memtable.specs.Versions.{moved}
 use Rattle.memtable.specs.Layout.{storeIn}
 use Rattle.memtable.specs.Rows.{Valid, versionsIn}
-use Rattle.batch.specs.Group.{anyKey}
 use Rattle.server.specs.Command.{commandOf}
-use Rattle.server.specs.Session.{readSequence, execute}
-use Rattle.server.specs.Sessions.{keysIn, queueIn, sessionFrom, allPositive}
+use Rattle.server.specs.Session.{anyMoved, execute}
+use Rattle.server.specs.Sessions.{queueIn, sessionFrom, allPositive}
 use Rattle.server.specs.Held.{Held}
 use Rattle.server.specs.Finish.{Served, finish}
 use Rattle.exec.specs.Progress.{Queued, commandsIn}
@@ -27,16 +25,11 @@ pub record LaidOut (s : List ℕ) (sb d : Bytes) (p′ : List ℕ) (d′ : Bytes
   pub room : r + 1280 ≤ length d′
   pub same-data : length d′ ≡ length d
 
--- the sequence at which EXEC reads, whatever bytes the words go with
-pub record ReadsAt (s w : List ℕ) (r : ℕ) : Type 0 where
-  pub is : (sb b : Bytes) → r ≡ readSequence (storeIn w b) (sessionFrom s sb .watch)
-
 -- before the commands of the queue: no mark, no watched key has moved, and the reply buffer is cleared
-pub record ExecReady (s : List ℕ) (sb : Bytes) (w b : List ℕ) (seq : ℕ) (out : Bytes) : Type 0 where
+pub record ExecReady (s : List ℕ) (sb : Bytes) (w b : List ℕ) (out : Bytes) : Type 0 where
   pub held : Held s sb
-  pub positive : allPositive (part 37 (getD s 4 0) s) ≡ true
+  pub positive : allPositive (part 69 (getD s 4 0) s) ≡ true
   pub unmarked : getD s 1 0 ≡ 0
-  pub reads : ReadsAt s w seq
-  pub unmoved : anyKey (moved seq (versionsIn w b)) (keysIn s sb) ≡ false
+  pub unmoved : anyMoved (versionsIn w b) (sessionFrom s sb .watch) ≡ false
   pub valid : Valid w b
   pub cleared : out ≡ replicate (length out) 0

@@ -1,30 +1,28 @@
 -- How far the commands of an EXEC have come, one command after another: what the code keeps while it walks the queue; and that queue.
 use Prim.Native.Nat.{ℕ, _≤_}
 use mathlib.Core.Path.{_≡_}
-use mathlib.Core.Bool.{Bool, true, false, _||_}
+use mathlib.Core.Bool.{true}
 use mathlib.Core.List.{List, [], _∷_, _++_, map}
 use lib.ListN.{length, getD, take}
 use Rattle.key.specs.Bytes.{Bytes, part, total}
 use Rattle.writing.specs.Puts.{Puts}
 use Rattle.resp.specs.Reply.{head, encode}
-use Rattle.memtable.specs.Table.{Write, keysOf, over, lastWrites}
-use Rattle.memtable.specs.Versions.{Version, readAt, moved}
-use Rattle.batch.specs.Group.{anyKey}
-use Rattle.server.specs.Command.{Command, commandOf, run, checks}
+use Rattle.memtable.specs.Table.{Write, over, lastWrites}
+use Rattle.memtable.specs.Versions.{Version, readAt}
+use Rattle.server.specs.Command.{Command, commandOf, run}
 use Rattle.server.specs.Sessions.{splitBy, allPositive}
 use Rattle.server.specs.Places.{argumentsAt, PartsIn}
 use Rattle.own.specs.Own.{ownWrites, Own}
 use Rattle.inside.specs.declared.Walked.{Walked}
 
--- the writes so far, one for each key; the bytes of the replies so far; whether a key written or checked has moved
+-- the writes so far, one for each key; the bytes of the replies so far
 pub record Progress : Type 0 where
   pub writes : List Write
   pub replies : Bytes
-  pub conflict : Bool
 
 -- before the first command
 abbrev pub begun : Progress
-begun = record { writes = []; replies = []; conflict = false }
+begun = record { writes = []; replies = [] }
 
 -- one command more: it reads at s through the writes before it
 unfoldable pub advance : ℕ → List Version → Command → Progress → Progress
@@ -33,7 +31,6 @@ advance s vs c p =
     record {
       writes = lastWrites (p .writes) (e .1);
       replies = p .replies ++ encode (e .0);
-      conflict = p .conflict || anyKey (moved s vs) (keysOf (e .1) ++ checks c);
     }
 
 -- all commands of a queue
@@ -43,21 +40,20 @@ advanceAll s vs (c ∷ cs) p = advanceAll s vs cs (advance s vs c p)
 
 -- THE QUEUE of a session as the code walks it: its sizes, and the places of its arguments in the data in use
 pub record Queued (s p : List ℕ) (d : Bytes) : Type 0 where
-  pub words : length s ≡ 613
+  pub words : length s ≡ 645
   pub few : getD s 4 0 ≤ 64
-  pub few-arguments : total (part 37 (getD s 4 0) s) ≤ 512
-  pub positive : allPositive (part 37 (getD s 4 0) s) ≡ true
-  pub parts : PartsIn p d (total (part 37 (getD s 4 0) s))
+  pub few-arguments : total (part 69 (getD s 4 0) s) ≤ 512
+  pub positive : allPositive (part 69 (getD s 4 0) s) ≡ true
+  pub parts : PartsIn p d (total (part 69 (getD s 4 0) s))
 
 -- its commands
 unfoldable pub commandsIn : List ℕ → List ℕ → Bytes → List Command
-commandsIn s p d = map commandOf (splitBy (part 37 (getD s 4 0) s) (argumentsAt 0 (total (part 37 (getD s 4 0) s)) p d))
+commandsIn s p d = map commandOf (splitBy (part 69 (getD s 4 0) s) (argumentsAt 0 (total (part 69 (getD s 4 0) s)) p d))
 
 -- what running all of them leaves, by how far they have come
 pub record QueueRan (e : Progress) (count : ℕ) (own : List ℕ) (d out : Bytes) (own′ : List ℕ) (d′ out′ : Bytes) (r : Walked) : Type 0 where
   pub kept : Own own′ (take (r .used) d′) (r .rows)
   pub writes : ownWrites own′ (take (r .used) d′) (r .rows) ≡ e .writes
-  pub conflict-is : r .conflict ≡ e .conflict
   pub puts : Puts (head 42 count ++ e .replies) out (r .put) out′
   pub used-in : r .used ≤ length d′
   pub same : length own′ ≡ length own

@@ -10,7 +10,7 @@ use inside::tombstones;
 ghost use Prim.Native.Nat.{_+_, _-_, _*_, _≤_};
 ghost use lib.ListN.{length, getD, take};
 ghost use Rattle.memtable.specs.Rows.{Valid, versionsIn};
-ghost use Rattle.server.specs.Command.{commandOf, run, checks};
+ghost use Rattle.server.specs.Command.{commandOf, run};
 ghost use Rattle.server.specs.Places.{argumentsAt, PartsIn};
 ghost use Rattle.own.specs.Own.{Own, readerOf};
 ghost use Rattle.inside.specs.Walks.{Advanced};
@@ -34,24 +34,14 @@ pub fn run_queued(
     requires { ⌜ 1 ≤ count ⌝ }
     requires { ⌜ 4 * (at .rows + (count - 1)) ≤ length (now own) ⌝ }
     requires { ⌜ at .used + 20 ≤ length (now «data») ⌝ }
-    ensures { λ r. ⌜ Advanced (run (readerOf (now (own .entry)) (take (at .used) (now («data» .entry))) (at .rows) (now (words .entry)) (now (bytes .entry)) seq) (commandOf (argumentsAt 0 count (now (places .entry)) (take (at .used) (now («data» .entry)))))) (checks (commandOf (argumentsAt 0 count (now (places .entry)) (take (at .used) (now («data» .entry)))))) (count - 1) seq (now (words .entry)) (now (bytes .entry)) (now (own .entry)) (now («data» .entry)) (now (out .entry)) at (now (own .exit)) (now («data» .exit)) (now (out .exit)) r ⌝ }
+    ensures { λ r. ⌜ Advanced (run (readerOf (now (own .entry)) (take (at .used) (now («data» .entry))) (at .rows) (now (words .entry)) (now (bytes .entry)) seq) (commandOf (argumentsAt 0 count (now (places .entry)) (take (at .used) (now («data» .entry)))))) (count - 1) (now (own .entry)) (now («data» .entry)) (now (out .entry)) at (now (own .exit)) (now («data» .exit)) (now (out .exit)) r ⌝ }
 {
     let used = at.used;
     let rows = at.rows;
     let put = at.put;
     let kind = kinds::kind_at(&data[..used], places, count);
     match kind {
-        Kind::Pairs => pairs::run_pairs(
-            places,
-            count,
-            own,
-            &data[..used],
-            words,
-            bytes,
-            seq,
-            out,
-            at,
-        ),
+        Kind::Pairs => pairs::run_pairs(places, count, own, &data[..used], out, at),
         Kind::Tombstones => tombstones::run_tombstones(
             places,
             count,
@@ -92,7 +82,6 @@ pub fn run_queued(
             Walked {
                 rows: rows,
                 used: used,
-                conflict: at.conflict,
                 put: next,
             }
         }
@@ -121,13 +110,12 @@ pub fn run_queue(
     let mut at = Walked {
         rows: 0,
         used: used,
-        conflict: false,
         put: reply::put_head(out, b'*', queued as u64),
     };
     let mut first = 0;
     let mut i = 0;
     while i < queued {
-        let count = sessions::word(session_words, 37 + i);
+        let count = sessions::word(session_words, 69 + i);
         let start = 2 * first;
         let end = start + 2 * count;
         at = run_queued(

@@ -2,6 +2,7 @@
 use crate::layout;
 use crate::queued;
 use crate::watched;
+use encode::reply;
 use server::Answer;
 use server::Fixed;
 ghost use mathlib.Core.Path.{_≡_};
@@ -13,19 +14,7 @@ ghost use Rattle.memtable.specs.Rows.{Valid};
 ghost use Rattle.server.specs.Lent.{OneSession};
 ghost use Rattle.server.specs.Sessions.{sessionOk};
 ghost use Rattle.conclude.specs.Leaving.{Leaves};
-ghost use Rattle.exec.specs.Execution.{ReadsAt, execServed, ExecReady};
-
-// The sequence at which EXEC reads: the snapshot, or the last sequence if nothing is watched.
-fn read_sequence(session_words: &[u64], words: &[u64]) -> u64
-    requires { ⌜ length (now «session_words») ≡ 613 ⌝ }
-    requires { ⌜ 5 ≤ length (now words) ⌝ }
-    ensures { λ r. ⌜ ReadsAt (now («session_words» .entry)) (now (words .entry)) r ⌝ }
-{
-    if changes::watched_count(session_words) == 0 {
-        return words[2];
-    }
-    changes::snapshot(session_words)
-}
+ghost use Rattle.exec.specs.Execution.{execServed, ExecReady};
 
 // Runs the queue in lent working memory, and answers by its verdict.
 fn exec_in(
@@ -33,19 +22,19 @@ fn exec_in(
     session_bytes: &[u8],
     words: &mut [u64],
     bytes: &mut [u8],
-    seq: u64,
     out: &mut [u8],
     used: usize,
     places: &mut [u64],
     own: &mut [u64],
     data: &mut [u8],
 ) -> Answer
-    requires { ⌜ ExecReady (now «session_words») (now «session_bytes») (now words) (now bytes) seq (now out) ⌝ }
+    requires { ⌜ ExecReady (now «session_words») (now «session_bytes») (now words) (now bytes) (now out) ⌝ }
     requires { ⌜ 1024 ≤ length (now places) ⌝ }
     requires { ⌜ 2048 ≤ length (now own) ⌝ }
     requires { ⌜ 11520 ≤ length (now «data») ⌝ }
     ensures { λ r. ⌜ Leaves (execServed (length (now (out .entry))) used (now («session_words» .entry)) (now («session_bytes» .entry)) (now (words .entry)) (now (bytes .entry))) (now (out .entry)) (now (words .entry)) (now (bytes .entry)) (now («session_words» .entry)) (now («session_bytes» .entry)) r (now (out .exit)) (now (words .exit)) (now (bytes .exit)) (now («session_words» .exit)) ⌝ }
 {
+    let seq = words[2];
     let in_use = layout::lay_out(session_words, session_bytes, places, data);
     let at = queued::run_queue(
         session_words,
@@ -62,7 +51,6 @@ fn exec_in(
     let put = at.put;
     conclude::conclude(
         session_words,
-        at.conflict,
         own,
         at.rows,
         &data[..end],
@@ -80,11 +68,10 @@ fn exec_queue(
     session_bytes: &[u8],
     words: &mut [u64],
     bytes: &mut [u8],
-    seq: u64,
     out: &mut [u8],
     used: usize,
 ) -> Answer
-    requires { ⌜ ExecReady (now «session_words») (now «session_bytes») (now words) (now bytes) seq (now out) ⌝ }
+    requires { ⌜ ExecReady (now «session_words») (now «session_bytes») (now words) (now bytes) (now out) ⌝ }
     ensures { λ r. ⌜ Leaves (execServed (length (now (out .entry))) used (now («session_words» .entry)) (now («session_bytes» .entry)) (now (words .entry)) (now (bytes .entry))) (now (out .entry)) (now (words .entry)) (now (bytes .entry)) (now («session_words» .entry)) (now («session_bytes» .entry)) r (now (out .exit)) (now (words .exit)) (now (bytes .exit)) (now («session_words» .exit)) ⌝ }
 {
     let mut places = [0u64; 1024];
@@ -95,7 +82,6 @@ fn exec_queue(
         session_bytes,
         words,
         bytes,
-        seq,
         out,
         used,
         &mut places,
@@ -123,9 +109,9 @@ pub fn exec(
         let put = errors::put_fixed(out, Fixed::ExecAbort);
         return conclude::close(session_words, put, used);
     }
-    let seq = read_sequence(session_words, words);
-    if watched::watched_moved(session_words, session_bytes, words, bytes, seq) {
-        return conclude::close_nil(session_words, out, used);
+    if watched::watched_moved(session_words, session_bytes, words, bytes) {
+        let put = reply::put_nil_array(out);
+        return conclude::close(session_words, put, used);
     }
-    exec_queue(session_words, session_bytes, words, bytes, seq, out, used)
+    exec_queue(session_words, session_bytes, words, bytes, out, used)
 }

@@ -1,4 +1,4 @@
--- Counters inside EXEC: the text of a number behind the data, and the reply, the write and the check. Assumes nothing.
+-- Counters inside EXEC: the text of a number behind the data, the reply and the write. Assumes nothing.
 use Prim.Native.Nat.{ℕ, _+_, _-_, _*_, _^_, _≤_, _<_}
 use native.Mathlib.Omega.{arith}
 use mathlib.Core.Path.{_≡_, refl, sym, ap, ap₂, _∙_, subst}
@@ -24,10 +24,8 @@ use mir.Val.{SFits, toZ, ofZ}
 use mir.ValLaws.{toZ-ofZ}
 use Rattle.key.specs.Bytes.{Bytes, part}
 use Rattle.key.specs.Keys.{Key}
-use Rattle.key.proofs.Bytes.{or-none, or-twice}
 use Rattle.number.specs.Decimal.{decimal}
 use Rattle.number.proofs.Decimals.{decimal-few}
-use Rattle.memtable.specs.Versions.{Version, moved}
 use Rattle.server.specs.Command.{Effect, argument, held, raised}
 use Rattle.own.specs.Own.{ownWrites, Own, readerOf}
 use Rattle.reading.proofs.Counters.{raised-bad, raised-over, raised-to}
@@ -37,10 +35,7 @@ use Rattle.number.specs.Number.{numberOf}
 use Rattle.inside.specs.declared.Walked.{Walked}
 use Rattle.command.specs.Kinds.{counterEffect}
 use Rattle.inside.specs.Walks.{TextPut, CounterSet, CounterError, Advanced}
-use mathlib.Core.Bool.{Bool, false, _||_}
 use Rattle.resp.specs.Reply.{Integer, encode}
-use Rattle.memtable.specs.Rows.{versionsIn}
-use Rattle.batch.specs.Group.{anyKey}
 use Rattle.server.specs.declared.Fixed.{Fixed}
 use Rattle.server.specs.declared.Fixed.the-variants as fixed
 use Rattle.server.specs.Errors.{fixedReply}
@@ -65,10 +60,7 @@ behind {text} {more} {longer} {entry} {mid} {last} {n} {m} w v e =
           ∙ rw (e, append-assoc, drop-drop) refl;
     }
 
--- THE CHECK, AND THE NUMBER READ
-pub name-moved : (seq : ℕ) (vs : List Version) {name k : Key} {m : Bool} → name ≡ k → m ≡ moved seq vs name → m ≡ moved seq vs k
-name-moved seq vs k-is m-is = m-is ∙ ap (moved seq vs) k-is
-
+-- THE NUMBER READ
 pub holds : (own : List ℕ) (d : Bytes) (rows : ℕ) (w : List ℕ) (b : Bytes) (s : ℕ) {name k : Key} {h : Number} → name ≡ k → h ≡ held (readerOf own d rows w b s name) → h ≡ held (readerOf own d rows w b s k)
 holds own d rows w b s k-is h-is = h-is ∙ ap (λ (x : Key). held (readerOf own d rows w b s x)) k-is
 
@@ -160,23 +152,22 @@ module _ (p : List ℕ) {own : List ℕ} (d : Bytes) (a : Walked) (o : Own own (
   pub counter-start : a .used ≤ length (take e d′)
   counter-start = omega (arith, ap length (t .is), length-append (take (a .used) d) (decimal z), front)
 
-  pub counter-set : {c : Bool} {own′ : List ℕ} {rows : ℕ} {next : Put} {out out′ : Bytes} → Adds (encode (Integer z)) (a .put) out next out′
+  pub counter-set : {own′ : List ℕ} {rows : ℕ} {next : Put} {out out′ : Bytes} → Adds (encode (Integer z)) (a .put) out next out′
       → OwnPut own own′ (take e d′) (a .rows) (keyPart p (take e d′) 2) (some (part (a .used) (length (take e d′) - a .used) (take e d′))) rows
-      → CounterSet (keyPart p (take (a .used) d) 2) n c own d out a own′ d′ out′ (record { rows = rows; used = e; conflict = c; put = next })
+      → CounterSet (keyPart p (take (a .used) d) 2) n own d out a own′ d′ out′ (record { rows = rows; used = e; put = next })
   counter-set s u = record {
     kept = u .kept;
     writes = u .is ∙ (λ i. update (key-same i) (some (some (value-same i))) (writes-same i)) ∙ sym (last-one (ownWrites own (take (a .used) d) (a .rows)) (keyPart p (take (a .used) d) 2, some (decimal n)));
     few = u .most;
     text = subst (λ (v : ℤ). TextPut v d (a .used) d′ e) z-is t;
-    conflict-is = refl;
     adds = same-added (ap (λ (v : ℤ). encode (Integer v)) (sym z-is)) s;
     same = u .same;
   }
 
 -- ALL TOGETHER
-same-advanced : {e e′ : Effect} (ks : List Key) (most seq : ℕ) (w : List ℕ) (b : Bytes) {own : List ℕ} {d out : Bytes} {a : Walked} {own′ : List ℕ} {d′ out′ : Bytes} {r : Walked}
-    → e ≡ e′ → Advanced e′ ks most seq w b own d out a own′ d′ out′ r → Advanced e ks most seq w b own d out a own′ d′ out′ r
-same-advanced ks most seq w b {own} {d} {out} {a} {own′} {d′} {out′} {r} same x = subst (λ (t : Effect). Advanced t ks most seq w b own d out a own′ d′ out′ r) (sym same) x
+same-advanced : {e e′ : Effect} (most : ℕ) {own : List ℕ} {d out : Bytes} {a : Walked} {own′ : List ℕ} {d′ out′ : Bytes} {r : Walked}
+    → e ≡ e′ → Advanced e′ most own d out a own′ d′ out′ r → Advanced e most own d out a own′ d′ out′ r
+same-advanced most {own} {d} {out} {a} {own′} {d′} {out′} {r} same x = subst (λ (t : Effect). Advanced t most own d out a own′ d′ out′ r) (sym same) x
 
 -- the key of a counter
 abbrev nameAt : List ℕ → ℕ → Bytes → Key
@@ -187,18 +178,17 @@ counter-place {p} {s} {count} ps least = part-in p s count 1 ps (omega arith)
 
 module _ (w : List ℕ) (b : Bytes) (seq : ℕ) (by : ℤ) (p : List ℕ) (count : ℕ) {own : List ℕ} (d : Bytes) (a : Walked)
     (o : Own own (take (a .used) d) (a .rows)) (ps : PartsIn p (take (a .used) d) count) (least : 2 ≤ count) where
-  module _ {m c : Bool} {h : Number} (m-is : m ≡ moved seq (versionsIn w b) (nameAt p count (take (a .used) d))) (c-is : c ≡ (a .conflict || m))
-      (h-is : h ≡ held (readerOf own (take (a .used) d) (a .rows) w b seq (nameAt p count (take (a .used) d)))) where
+  module _ {h : Number} (h-is : h ≡ held (readerOf own (take (a .used) d) (a .rows) w b seq (nameAt p count (take (a .used) d)))) where
     effect-is : {e : Effect} → raised (nameAt p count (take (a .used) d)) by h ≡ e → counterEffect by (readerOf own (take (a .used) d) (a .rows) w b seq) (argumentsAt 0 count p (take (a .used) d)) ≡ e
     unfolding counterEffect
     effect-is e = sym (ap (raised (nameAt p count (take (a .used) d)) by) h-is) ∙ e
 
     -- an error sets nothing
-    not-set : (f : Fixed) {r : Walked} {out out′ : Bytes} → raised (nameAt p count (take (a .used) d)) by h ≡ (fixedReply f, []) → CounterError f c out a out′ r
-        → Advanced (counterEffect by (readerOf own (take (a .used) d) (a .rows) w b seq) (argumentsAt 0 count p (take (a .used) d))) (nameAt p count (take (a .used) d) ∷ []) (count - 1) seq w b own d out a own d out′ r
-    unfolding lastWrites anyKey
+    not-set : (f : Fixed) {r : Walked} {out out′ : Bytes} → raised (nameAt p count (take (a .used) d)) by h ≡ (fixedReply f, []) → CounterError f out a out′ r
+        → Advanced (counterEffect by (readerOf own (take (a .used) d) (a .rows) w b seq) (argumentsAt 0 count p (take (a .used) d))) (count - 1) own d out a own d out′ r
+    unfolding lastWrites
     not-set f e x =
-        same-advanced (nameAt p count (take (a .used) d) ∷ []) (count - 1) seq w b (effect-is e)
+        same-advanced (count - 1) (effect-is e)
         (record {
           kept = rw (x .used-is, x .rows-is) o;
           writes = rw (x .used-is, x .rows-is) refl;
@@ -206,30 +196,28 @@ module _ (w : List ℕ) (b : Bytes) (seq : ℕ) (by : ℤ) (p : List ℕ) (count
           data-kept = refl;
           used-more = omega (arith, x .used-is);
           used-few = omega (arith, x .used-is);
-          conflict-is = x .conflict-is ∙ c-is ∙ ap (λ (t : Bool). a .conflict || t) (m-is ∙ or-none (moved seq (versionsIn w b) (nameAt p count (take (a .used) d))));
           adds = x .adds;
           same = refl;
           same-data = refl;
         })
 
-    pub counter-bad : {r : Walked} {out out′ : Bytes} → h ≡ Bad → CounterError fixed.NotInteger c out a out′ r
-        → Advanced (counterEffect by (readerOf own (take (a .used) d) (a .rows) w b seq) (argumentsAt 0 count p (take (a .used) d))) (nameAt p count (take (a .used) d) ∷ []) (count - 1) seq w b own d out a own d out′ r
+    pub counter-bad : {r : Walked} {out out′ : Bytes} → h ≡ Bad → CounterError fixed.NotInteger out a out′ r
+        → Advanced (counterEffect by (readerOf own (take (a .used) d) (a .rows) w b seq) (argumentsAt 0 count p (take (a .used) d))) (count - 1) own d out a own d out′ r
     unfolding fixedReply
     counter-bad e x = not-set fixed.NotInteger (raised-bad (nameAt p count (take (a .used) d)) by e) x
 
     -- x and y are n and `by` as the sum reads them
     module _ {n x y : ℤ} {sum : Number} (is : h ≡ Int n) (x-is : x ≡ n) (y-is : y ≡ by) (sum-is : sum ≡ numberOf (x +ℤ y)) where
-      pub counter-over : {r : Walked} {out out′ : Bytes} → sum ≡ Bad → CounterError fixed.Overflow c out a out′ r
-          → Advanced (counterEffect by (readerOf own (take (a .used) d) (a .rows) w b seq) (argumentsAt 0 count p (take (a .used) d))) (nameAt p count (take (a .used) d) ∷ []) (count - 1) seq w b own d out a own d out′ r
+      pub counter-over : {r : Walked} {out out′ : Bytes} → sum ≡ Bad → CounterError fixed.Overflow out a out′ r
+          → Advanced (counterEffect by (readerOf own (take (a .used) d) (a .rows) w b seq) (argumentsAt 0 count p (take (a .used) d))) (count - 1) own d out a own d out′ r
       unfolding fixedReply
       counter-over e s = not-set fixed.Overflow (raised-over (nameAt p count (take (a .used) d)) by is x-is y-is sum-is e) s
 
       -- a number sets the write
-      pub counter-raised : {s t : ℤ} {r : Walked} {own′ : List ℕ} {d′ out out′ : Bytes} → sum ≡ Int s → t ≡ s → CounterSet (keyPart p (take (a .used) d) 2) t c own d out a own′ d′ out′ r
-          → Advanced (counterEffect by (readerOf own (take (a .used) d) (a .rows) w b seq) (argumentsAt 0 count p (take (a .used) d))) (nameAt p count (take (a .used) d) ∷ []) (count - 1) seq w b own d out a own′ d′ out′ r
-      unfolding anyKey
+      pub counter-raised : {s t : ℤ} {r : Walked} {own′ : List ℕ} {d′ out out′ : Bytes} → sum ≡ Int s → t ≡ s → CounterSet (keyPart p (take (a .used) d) 2) t own d out a own′ d′ out′ r
+          → Advanced (counterEffect by (readerOf own (take (a .used) d) (a .rows) w b seq) (argumentsAt 0 count p (take (a .used) d))) (count - 1) own d out a own′ d′ out′ r
       counter-raised {s} {t} {r} {d′ = d′} e t-is q =
-          same-advanced (nameAt p count (take (a .used) d) ∷ []) (count - 1) seq w b (effect-is (raised-to (nameAt p count (take (a .used) d)) by is x-is y-is sum-is e))
+          same-advanced (count - 1) (effect-is (raised-to (nameAt p count (take (a .used) d)) by is x-is y-is sum-is e))
           (record {
             kept = q .kept;
             writes = q .writes ∙ (λ i. lastWrites (ownWrites own (take (a .used) d) (a .rows)) ((argument-is p (take (a .used) d) count 1 (omega arith) refl i, some (decimal (t-is i))) ∷ []));
@@ -237,7 +225,6 @@ module _ (w : List ℕ) (b : Bytes) (seq : ℕ) (by : ℤ) (p : List ℕ) (count
             data-kept = sym (take-take (a .used) (r .used) d′ (omega (arith, q .text .end-is))) ∙ ap (take (a .used)) (q .text .is) ∙ take-at (take (a .used) d) (decimal t) (a .used) (length-take-le (a .used) d (omega (arith, q .text .inside, q .text .end-is, q .text .same)));
             used-more = omega (arith, q .text .end-is);
             used-few = q .text .few;
-            conflict-is = q .conflict-is ∙ c-is ∙ ap (λ (v : Bool). a .conflict || v) (m-is ∙ or-none (moved seq (versionsIn w b) (nameAt p count (take (a .used) d))) ∙ or-twice (moved seq (versionsIn w b) (nameAt p count (take (a .used) d))) false);
             adds = same-added (ap (λ (v : ℤ). encode (Integer v)) (sym t-is)) (q .adds);
             same = q .same;
             same-data = q .text .same;

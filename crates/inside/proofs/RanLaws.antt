@@ -2,19 +2,14 @@
 use Prim.Native.Nat.{ℕ, _+_, _-_, _*_, _/_, _≤_}
 use native.Mathlib.Omega.{arith}
 use mathlib.Core.Path.{_≡_, refl, sym, ap, _∙_}
-use mathlib.Core.Bool.{Bool, _||_}
-use mathlib.Core.List.{List, [], map, append-nil}
+use mathlib.Core.List.{List, map}
 use lib.ListN.{length}
-use Rattle.server.proofs.CommandLaws.{tombstone-keys}
 use Rattle.server.proofs.PlaceLaws.{arguments-of}
 use Rattle.key.specs.Bytes.{Bytes}
 use Rattle.writing.specs.declared.Put.{Put}
 use Rattle.writing.specs.Puts.{Adds}
 use Rattle.resp.specs.Reply.{encode}
-use Rattle.memtable.specs.Table.{keysOf, lastWrites}
-use Rattle.memtable.specs.Versions.{moved}
-use Rattle.memtable.specs.Rows.{versionsIn}
-use Rattle.batch.specs.Group.{anyKey}
+use Rattle.memtable.specs.Table.{lastWrites}
 use Rattle.server.specs.declared.Fixed.the-variants.{Ok}
 use Rattle.server.specs.Names.{Args, arguments}
 use Rattle.server.specs.Command.{put, tombstone, pairsOf}
@@ -42,38 +37,30 @@ module _ (p : List ℕ) (d : Bytes) (count : ℕ) (h : 1 ≤ count) where
   unfolding tombstonesAt
   tombstones-are = ap (map tombstone) (sym (arguments-of p d count h))
 
-module _ (w : List ℕ) (b : Bytes) (seq : ℕ) (p : List ℕ) (d : Bytes) (count : ℕ) {own own′ : List ℕ} {out out′ : Bytes} {a : Walked} {rows : ℕ} {m c : Bool} {next : Put} where
+module _ (p : List ℕ) (d : Bytes) (count : ℕ) {own own′ : List ℕ} {out out′ : Bytes} {a : Walked} {rows : ℕ} {next : Put} where
   pub pairs-ran : InPairs count → Adds (encode (fixedReply Ok)) (a .put) out next out′ → OwnPuts own own′ d (a .rows) (pairsAt 1 (count - 1) p d) ((count - 1) / 2) rows
-      → m ≡ anyKey (moved seq (versionsIn w b)) (keysOf (pairsAt 1 (count - 1) p d)) → c ≡ (a .conflict || m)
-      → Ran (pairsEffect (argumentsAt 0 count p d)) [] (count - 1) seq w b d own out a own′ out′ (record { rows = rows; used = a .used; conflict = c; put = next })
+      → Ran (pairsEffect (argumentsAt 0 count p d)) (count - 1) d own out a own′ out′ (record { rows = rows; used = a .used; put = next })
   unfolding pairsEffect fixedReply
-  pairs-ran i s o m-is c-is =
+  pairs-ran i s o =
       let l : 1 ≤ count = pairs-least i in
       record {
         kept = o .kept;
         writes = o .is ∙ ap (lastWrites (ownWrites own d (a .rows))) (pairs-are p d count l);
         few = omega (arith, o .most);
         used-is = refl;
-        conflict-is = c-is ∙ ap (λ (x : Bool). a .conflict || x) (m-is
-            ∙ ap (anyKey (moved seq (versionsIn w b))) (ap keysOf (pairs-are p d count l) ∙ sym (append-nil (keysOf (map put (pairsOf (arguments (argumentsAt 0 count p d))))))));
         adds = s;
         same = o .same;
       }
 
-  pub tombstones-ran : 1 ≤ count → Adds (encode (liveReply (readerOf own d (a .rows) w b seq) (argumentsAt 0 count p d))) (a .put) out next out′
+  pub tombstones-ran : (w : List ℕ) (b : Bytes) (seq : ℕ) → 1 ≤ count → Adds (encode (liveReply (readerOf own d (a .rows) w b seq) (argumentsAt 0 count p d))) (a .put) out next out′
       → OwnPuts own own′ d (a .rows) (tombstonesAt 1 (count - 1) p d) (count - 1) rows
-      → m ≡ anyKey (moved seq (versionsIn w b)) (argumentsAt 1 (count - 1) p d) → c ≡ (a .conflict || m)
-      → Ran (tombstonesEffect (readerOf own d (a .rows) w b seq) (argumentsAt 0 count p d)) [] (count - 1) seq w b d own out a own′ out′ (record { rows = rows; used = a .used; conflict = c; put = next })
+      → Ran (tombstonesEffect (readerOf own d (a .rows) w b seq) (argumentsAt 0 count p d)) (count - 1) d own out a own′ out′ (record { rows = rows; used = a .used; put = next })
   unfolding tombstonesEffect
-  tombstones-ran l s o m-is c-is =
-      record {
-        kept = o .kept;
-        writes = o .is ∙ ap (lastWrites (ownWrites own d (a .rows))) (tombstones-are p d count l);
-        few = o .most;
-        used-is = refl;
-        conflict-is = c-is ∙ ap (λ (x : Bool). a .conflict || x) (m-is
-            ∙ ap (anyKey (moved seq (versionsIn w b))) (sym (arguments-of p d count l) ∙ sym (tombstone-keys (arguments (argumentsAt 0 count p d)))
-            ∙ sym (append-nil (keysOf (map tombstone (arguments (argumentsAt 0 count p d)))))));
-        adds = s;
-        same = o .same;
-      }
+  tombstones-ran w b seq l s o = record {
+    kept = o .kept;
+    writes = o .is ∙ ap (lastWrites (ownWrites own d (a .rows))) (tombstones-are p d count l);
+    few = o .most;
+    used-is = refl;
+    adds = s;
+    same = o .same;
+  }

@@ -1,7 +1,6 @@
 -- What running a queued command leaves.
 use Prim.Native.Nat.{ℕ, _+_, _≤_}
 use mathlib.Core.Path.{_≡_}
-use mathlib.Core.Bool.{Bool, _||_}
 use mathlib.Core.List.{List, [], _∷_, _++_}
 use mathlib.Core.Option.{some}
 use lib.IntN.{ℤ}
@@ -11,23 +10,19 @@ use Rattle.key.specs.Keys.{Key}
 use Rattle.writing.specs.Puts.{Adds}
 use Rattle.number.specs.Decimal.{decimal}
 use Rattle.resp.specs.Reply.{Integer, encode}
-use Rattle.memtable.specs.Table.{keysOf, lastWrites}
-use Rattle.memtable.specs.Versions.{moved}
-use Rattle.memtable.specs.Rows.{versionsIn}
-use Rattle.batch.specs.Group.{anyKey}
+use Rattle.memtable.specs.Table.{lastWrites}
 use Rattle.server.specs.Command.{Effect}
 use Rattle.server.specs.declared.Fixed.{Fixed}
 use Rattle.server.specs.Errors.{fixedReply}
 use Rattle.own.specs.Own.{ownWrites, Own}
 use Rattle.inside.specs.declared.Walked.{Walked}
 
--- a command that leaves the data, with its effect and the keys that it checks besides: the own writes, the reply, and whether a key has moved
-pub record Ran (e : Effect) (ks : List Key) (most seq : ℕ) (w : List ℕ) (b d : Bytes) (own : List ℕ) (out : Bytes) (a : Walked) (own′ : List ℕ) (out′ : Bytes) (r : Walked) : Type 0 where
+-- a command that leaves the data, with its effect: the own writes, and the reply
+pub record Ran (e : Effect) (most : ℕ) (d : Bytes) (own : List ℕ) (out : Bytes) (a : Walked) (own′ : List ℕ) (out′ : Bytes) (r : Walked) : Type 0 where
   pub kept : Own own′ d (r .rows)
   pub writes : ownWrites own′ d (r .rows) ≡ lastWrites (ownWrites own d (a .rows)) (e .1)
   pub few : r .rows ≤ a .rows + most
   pub used-is : r .used ≡ a .used
-  pub conflict-is : r .conflict ≡ (a .conflict || anyKey (moved seq (versionsIn w b)) (keysOf (e .1) ++ ks))
   pub adds : Adds (encode (e .0)) (a .put) out (r .put) out′
   pub same : length own′ ≡ length own
 
@@ -39,32 +34,29 @@ pub record TextPut (n : ℤ) (d : Bytes) (used : ℕ) (d′ : Bytes) (e : ℕ) :
   pub few : e ≤ used + 20
   pub same : length d′ ≡ length d
 
--- a counter k set to n, its text written behind the data in use; c says whether a key has moved
-pub record CounterSet (k : Key) (n : ℤ) (c : Bool) (own : List ℕ) (d out : Bytes) (a : Walked) (own′ : List ℕ) (d′ out′ : Bytes) (r : Walked) : Type 0 where
+-- a counter k set to n, its text written behind the data in use
+pub record CounterSet (k : Key) (n : ℤ) (own : List ℕ) (d out : Bytes) (a : Walked) (own′ : List ℕ) (d′ out′ : Bytes) (r : Walked) : Type 0 where
   pub kept : Own own′ (take (r .used) d′) (r .rows)
   pub writes : ownWrites own′ (take (r .used) d′) (r .rows) ≡ lastWrites (ownWrites own (take (a .used) d) (a .rows)) ((k, some (decimal n)) ∷ [])
   pub few : r .rows ≤ a .rows + 1
   pub text : TextPut n d (a .used) d′ (r .used)
-  pub conflict-is : r .conflict ≡ c
   pub adds : Adds (encode (Integer n)) (a .put) out (r .put) out′
   pub same : length own′ ≡ length own
 
 -- a counter answered by an error, which sets nothing
-pub record CounterError (f : Fixed) (c : Bool) (out : Bytes) (a : Walked) (out′ : Bytes) (r : Walked) : Type 0 where
+pub record CounterError (f : Fixed) (out : Bytes) (a : Walked) (out′ : Bytes) (r : Walked) : Type 0 where
   pub rows-is : r .rows ≡ a .rows
   pub used-is : r .used ≡ a .used
-  pub conflict-is : r .conflict ≡ c
   pub adds : Adds (encode (fixedReply f)) (a .put) out (r .put) out′
 
 -- any queued command: the data in use may grow behind
-pub record Advanced (e : Effect) (ks : List Key) (most seq : ℕ) (w : List ℕ) (b : Bytes) (own : List ℕ) (d out : Bytes) (a : Walked) (own′ : List ℕ) (d′ out′ : Bytes) (r : Walked) : Type 0 where
+pub record Advanced (e : Effect) (most : ℕ) (own : List ℕ) (d out : Bytes) (a : Walked) (own′ : List ℕ) (d′ out′ : Bytes) (r : Walked) : Type 0 where
   pub kept : Own own′ (take (r .used) d′) (r .rows)
   pub writes : ownWrites own′ (take (r .used) d′) (r .rows) ≡ lastWrites (ownWrites own (take (a .used) d) (a .rows)) (e .1)
   pub few : r .rows ≤ a .rows + most
   pub data-kept : take (a .used) d′ ≡ take (a .used) d
   pub used-more : a .used ≤ r .used
   pub used-few : r .used ≤ a .used + 20
-  pub conflict-is : r .conflict ≡ (a .conflict || anyKey (moved seq (versionsIn w b)) (keysOf (e .1) ++ ks))
   pub adds : Adds (encode (e .0)) (a .put) out (r .put) out′
   pub same : length own′ ≡ length own
   pub same-data : length d′ ≡ length d

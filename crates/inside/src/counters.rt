@@ -1,6 +1,5 @@
 // INCR, DECR and INCRBY inside EXEC.
 use crate::Walked;
-use crate::keys;
 use command::arguments::argument;
 use memtable::read;
 use number::Number;
@@ -10,13 +9,11 @@ use reading::counter;
 use server::Fixed;
 use writing::Put;
 ghost use mathlib.Core.Path.{_≡_};
-ghost use mathlib.Core.List.{[], _∷_};
 ghost use mathlib.Core.Option.{some};
 ghost use Prim.Native.Nat.{_+_, _-_, _*_, _≤_};
 ghost use lib.ListN.{length, take};
 ghost use Rattle.key.specs.Bytes.{part};
-ghost use Rattle.memtable.specs.Versions.{moved};
-ghost use Rattle.memtable.specs.Rows.{Valid, versionsIn};
+ghost use Rattle.memtable.specs.Rows.{Valid};
 ghost use Rattle.batch.specs.Settling.{keyPart, KeyIn};
 ghost use Rattle.server.specs.Command.{argument, held};
 ghost use Rattle.server.specs.Places.{argumentsAt, PartsIn};
@@ -44,23 +41,6 @@ fn counter_number(
 {
     let name = argument(data, places, count, 1);
     counter::held_number(own, rows, data, words, bytes, seq, name)
-}
-
-// Has the counter that argument 1 names a version above `seq`?
-fn counter_moved(
-    places: &[u64],
-    count: usize,
-    data: &[u8],
-    words: &[u64],
-    bytes: &[u8],
-    seq: u64,
-) -> bool
-    requires { ⌜ Valid (now words) (now bytes) ⌝ }
-    requires { ⌜ PartsIn (now places) (now «data») count ⌝ }
-    requires { ⌜ 2 ≤ count ⌝ }
-    ensures { λ r. ⌜ r ≡ moved seq (versionsIn (now (words .entry)) (now (bytes .entry))) (argument 1 (argumentsAt 0 count (now (places .entry)) (now («data» .entry)))) ⌝ }
-{
-    read::moved(words, bytes, argument(data, places, count, 1), seq)
 }
 
 // Writes the text of a number behind the data in use, and answers where the data in use ends then.
@@ -96,14 +76,13 @@ fn set_counter(
     data: &mut [u8],
     out: &mut [u8],
     at: Walked,
-    conflict: bool,
     n: i64,
 ) -> Walked
     requires { ⌜ Own (now own) (take (at .used) (now «data»)) (at .rows) ⌝ }
     requires { ⌜ KeyIn (now places) (take (at .used) (now «data»)) 2 ⌝ }
     requires { ⌜ 4 * (at .rows) + 4 ≤ length (now own) ⌝ }
     requires { ⌜ at .used + 20 ≤ length (now «data») ⌝ }
-    ensures { λ r. ⌜ CounterSet (keyPart (now (places .entry)) (take (at .used) (now («data» .entry))) 2) n conflict (now (own .entry)) (now («data» .entry)) (now (out .entry)) at (now (own .exit)) (now («data» .exit)) (now (out .exit)) r ⌝ }
+    ensures { λ r. ⌜ CounterSet (keyPart (now (places .entry)) (take (at .used) (now («data» .entry))) 2) n (now (own .entry)) (now («data» .entry)) (now (out .entry)) at (now (own .exit)) (now («data» .exit)) (now (out .exit)) r ⌝ }
 {
     let used = at.used;
     let put = at.put;
@@ -113,26 +92,24 @@ fn set_counter(
     Walked {
         rows: rows,
         used: end,
-        conflict: conflict,
         put: next,
     }
 }
 
 // A counter answered by an error: nothing is set.
-fn answer_error(out: &mut [u8], at: Walked, conflict: bool, which: Fixed) -> Walked
-    ensures { λ r. ⌜ CounterError which conflict (now (out .entry)) at (now (out .exit)) r ⌝ }
+fn answer_error(out: &mut [u8], at: Walked, which: Fixed) -> Walked
+    ensures { λ r. ⌜ CounterError which (now (out .entry)) at (now (out .exit)) r ⌝ }
 {
     let put = at.put;
     let next = errors::then_fixed(out, put, which);
     Walked {
         rows: at.rows,
         used: at.used,
-        conflict: conflict,
         put: next,
     }
 }
 
-// The number read and the checked sum, or the error. The key is checked in any case.
+// The number read and the checked sum, or the error.
 pub fn run_counter(
     places: &[u64],
     count: usize,
@@ -151,11 +128,9 @@ pub fn run_counter(
     requires { ⌜ 2 ≤ count ⌝ }
     requires { ⌜ 4 * (at .rows + (count - 1)) ≤ length (now own) ⌝ }
     requires { ⌜ at .used + 20 ≤ length (now «data») ⌝ }
-    ensures { λ r. ⌜ Advanced (counterEffect by (readerOf (now (own .entry)) (take (at .used) (now («data» .entry))) (at .rows) (now (words .entry)) (now (bytes .entry)) seq) (argumentsAt 0 count (now (places .entry)) (take (at .used) (now («data» .entry))))) (argument 1 (argumentsAt 0 count (now (places .entry)) (take (at .used) (now («data» .entry)))) ∷ []) (count - 1) seq (now (words .entry)) (now (bytes .entry)) (now (own .entry)) (now («data» .entry)) (now (out .entry)) at (now (own .exit)) (now («data» .exit)) (now (out .exit)) r ⌝ }
+    ensures { λ r. ⌜ Advanced (counterEffect by (readerOf (now (own .entry)) (take (at .used) (now («data» .entry))) (at .rows) (now (words .entry)) (now (bytes .entry)) seq) (argumentsAt 0 count (now (places .entry)) (take (at .used) (now («data» .entry))))) (count - 1) (now (own .entry)) (now («data» .entry)) (now (out .entry)) at (now (own .exit)) (now («data» .exit)) (now (out .exit)) r ⌝ }
 {
     let used = at.used;
-    let moved = counter_moved(places, count, &data[..used], words, bytes, seq);
-    let conflict = keys::either(at.conflict, moved);
     let held = counter_number(
         places,
         count,
@@ -167,10 +142,10 @@ pub fn run_counter(
         seq,
     );
     let Number::Int(number) = held else {
-        return answer_error(out, at, conflict, Fixed::NotInteger);
+        return answer_error(out, at, Fixed::NotInteger);
     };
     let Number::Int(sum) = integer::checked_sum(number, by) else {
-        return answer_error(out, at, conflict, Fixed::Overflow);
+        return answer_error(out, at, Fixed::Overflow);
     };
-    set_counter(places, own, data, out, at, conflict, sum)
+    set_counter(places, own, data, out, at, sum)
 }

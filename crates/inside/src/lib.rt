@@ -1,17 +1,14 @@
 // The commands that write inside EXEC: each reads through the writes before it.
 pub mod counters;
-pub mod keys;
 pub mod live;
 pub mod pairs;
 pub mod tombstones;
 
 use writing::Put;
 
-// How far an EXEC has come: the rows of its own writes, the bytes of the data in use, whether a key that it wrote or checked has
-// moved, and the reply so far.
+// How far an EXEC has come: the rows of its own writes, the bytes of the data in use, and the reply so far.
 pub struct Walked {
     pub rows: usize,
     pub used: usize,
-    pub conflict: bool,
     pub put: Put,
 }

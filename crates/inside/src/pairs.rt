@@ -1,17 +1,14 @@
 // SET and MSET inside EXEC.
 use crate::Walked;
-use crate::keys;
 use own::arguments;
 use server::Fixed;
 ghost use Prim.Native.Nat.{_+_, _-_, _*_, _≤_};
 ghost use lib.ListN.{length};
-ghost use Rattle.memtable.specs.Rows.{Valid};
 ghost use Rattle.command.specs.Meant.{InPairs};
 ghost use Rattle.server.specs.Places.{argumentsAt, PartsIn};
 ghost use Rattle.own.specs.Own.{Own};
 ghost use Rattle.command.specs.Kinds.{pairsEffect};
 ghost use Rattle.inside.specs.Walks.{Ran};
-ghost use mathlib.Core.List.{[]};
 
 // Sets the write of each pair of a key and a value, and answers `+OK`.
 pub fn run_pairs(
@@ -19,27 +16,21 @@ pub fn run_pairs(
     count: usize,
     own: &mut [u64],
     data: &[u8],
-    words: &[u64],
-    bytes: &[u8],
-    seq: u64,
     out: &mut [u8],
     at: Walked,
 ) -> Walked
     requires { ⌜ Own (now own) (now «data») (at .rows) ⌝ }
-    requires { ⌜ Valid (now words) (now bytes) ⌝ }
     requires { ⌜ PartsIn (now places) (now «data») count ⌝ }
     requires { ⌜ InPairs count ⌝ }
     requires { ⌜ 4 * (at .rows + (count - 1)) ≤ length (now own) ⌝ }
-    ensures { λ r. ⌜ Ran (pairsEffect (argumentsAt 0 count (now (places .entry)) (now («data» .entry)))) [] (count - 1) seq (now (words .entry)) (now (bytes .entry)) (now («data» .entry)) (now (own .entry)) (now (out .entry)) at (now (own .exit)) (now (out .exit)) r ⌝ }
+    ensures { λ r. ⌜ Ran (pairsEffect (argumentsAt 0 count (now (places .entry)) (now («data» .entry)))) (count - 1) (now («data» .entry)) (now (own .entry)) (now (out .entry)) at (now (own .exit)) (now (out .exit)) r ⌝ }
 {
     let put = at.put;
     let next = errors::then_fixed(out, put, Fixed::Ok);
     let rows = arguments::put_pairs(own, at.rows, data, places, 1, count);
-    let moved = keys::pairs_moved(places, 1, count, data, words, bytes, seq);
     Walked {
         rows: rows,
         used: at.used,
-        conflict: keys::either(at.conflict, moved),
         put: next,
     }
 }

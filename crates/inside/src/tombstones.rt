@@ -1,9 +1,7 @@
 // DEL inside EXEC.
 use crate::Walked;
-use crate::keys;
 use crate::live;
 use own::arguments;
-ghost use mathlib.Core.List.{[]};
 ghost use Prim.Native.Nat.{_+_, _-_, _*_, _≤_};
 ghost use lib.ListN.{length};
 ghost use Rattle.memtable.specs.Rows.{Valid};
@@ -29,7 +27,7 @@ pub fn run_tombstones(
     requires { ⌜ PartsIn (now places) (now «data») count ⌝ }
     requires { ⌜ 1 ≤ count ⌝ }
     requires { ⌜ 4 * (at .rows + (count - 1)) ≤ length (now own) ⌝ }
-    ensures { λ r. ⌜ Ran (tombstonesEffect (readerOf (now (own .entry)) (now («data» .entry)) (at .rows) (now (words .entry)) (now (bytes .entry)) seq) (argumentsAt 0 count (now (places .entry)) (now («data» .entry)))) [] (count - 1) seq (now (words .entry)) (now (bytes .entry)) (now («data» .entry)) (now (own .entry)) (now (out .entry)) at (now (own .exit)) (now (out .exit)) r ⌝ }
+    ensures { λ r. ⌜ Ran (tombstonesEffect (readerOf (now (own .entry)) (now («data» .entry)) (at .rows) (now (words .entry)) (now (bytes .entry)) seq) (argumentsAt 0 count (now (places .entry)) (now («data» .entry)))) (count - 1) (now («data» .entry)) (now (own .entry)) (now (out .entry)) at (now (own .exit)) (now (out .exit)) r ⌝ }
 {
     let put = at.put;
     let next = live::then_live(
@@ -45,11 +43,9 @@ pub fn run_tombstones(
         put,
     );
     let rows = arguments::put_tombstones(own, at.rows, data, places, 1, count);
-    let moved = keys::keys_moved(places, 1, count, data, words, bytes, seq);
     Walked {
         rows: rows,
         used: at.used,
-        conflict: keys::either(at.conflict, moved),
         put: next,
     }
 }

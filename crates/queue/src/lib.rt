@@ -37,11 +37,11 @@ pub fn takes(words: &[u64], places: &[u64], count: usize) -> bool
     if 64 <= queued {
         return false;
     }
-    let arguments = sessions::sum_within(words, 37, queued, 512);
+    let arguments = sessions::sum_within(words, 69, queued, 512);
     if 512 - arguments < count {
         return false;
     }
-    let used = sessions::sum_within(words, 101, arguments, 8192);
+    let used = sessions::sum_within(words, 133, arguments, 8192);
     let left = 8192 - used;
     lengths_within(places, count, left) <= left
 }
@@ -84,23 +84,23 @@ pub fn append(words: &mut [u64], bytes: &mut [u8], input: &[u8], places: &[u64],
     ensures { λ _. ⌜ Appended (now (words .entry)) (now (words .exit)) (now (bytes .entry)) (now (bytes .exit)) (argumentsAt 0 count (now (places .entry)) (now (input .entry))) ⌝ }
 {
     let queued = sessions::word(words, 4);
-    let arguments = sessions::sum_within(words, 37, queued, 512);
-    let used = sessions::sum_within(words, 101, arguments, 8192);
-    put_lengths(words, 101 + arguments, places, count);
+    let arguments = sessions::sum_within(words, 69, queued, 512);
+    let used = sessions::sum_within(words, 133, arguments, 8192);
+    put_lengths(words, 133 + arguments, places, count);
     put_arguments(bytes, 2048 + used, input, places, count);
-    words[37 + queued] = count as u64;
+    words[69 + queued] = count as u64;
     words[4] = (queued + 1) as u64;
 }
 
 // Writes the places of the first `count` queued arguments in the session's bytes into a table.
 pub fn expand(words: &[u64], places: &mut [u64], count: usize)
     requires { ⌜ Expandable (now words) (now places) count ⌝ }
-    ensures { λ _. ⌜ now (places .exit) ≡ putAt 0 (placesOf 2048 (part 101 count (now (words .entry)))) (now (places .entry)) ⌝ }
+    ensures { λ _. ⌜ now (places .exit) ≡ putAt 0 (placesOf 2048 (part 133 count (now (words .entry)))) (now (places .entry)) ⌝ }
 {
     let mut start = 2048;
     let mut i = 0;
     while i < count {
-        let len = sessions::word(words, 101 + i);
+        let len = sessions::word(words, 133 + i);
         let at = 2 * i;
         places[at] = start as u64;
         places[at + 1] = len as u64;

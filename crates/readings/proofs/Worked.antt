@@ -13,7 +13,7 @@ use Rattle.readings.specs.Readings.{opened, line, after, answerTo, first
 abbrev kindOf : Item → ℕ
 kindOf (alone c b) = 1
 kindOf (listed l b) = 2
-kindOf (exec watched q b) = 3
+kindOf (exec q b) = 3
 kindOf (member ws) = 4
 
 -- one write of the key `g`, without a read sequence
@@ -48,6 +48,18 @@ kSet = after (line 0 "SET k 1" ∷ []) opened
 unfoldable queued : Lent
 queued = after (line 0 "MULTI" ∷ line 0 "SET k 2" ∷ line 0 "GET k" ∷ []) opened
 
+-- b written between WATCH a and WATCH b, then GET b queued
+unfoldable watchedApart : Lent
+watchedApart = after (line 0 "WATCH a" ∷ line 1 "SET b 1" ∷ line 0 "WATCH b" ∷ line 0 "MULTI" ∷ line 0 "GET b" ∷ []) opened
+
+-- a written between two WATCHes of it
+unfoldable watchedTwice : Lent
+watchedTwice = after (line 0 "WATCH a" ∷ line 1 "SET a 1" ∷ line 0 "WATCH a" ∷ line 0 "MULTI" ∷ []) opened
+
+-- b written since WATCH a, then INCR b and EXISTS b queued
+unfoldable writtenOnly : Lent
+writtenOnly = after (line 0 "WATCH a" ∷ line 0 "MULTI" ∷ line 0 "INCR b" ∷ line 0 "EXISTS b" ∷ line 1 "SET b 4" ∷ []) opened
+
 unfoldable answers : List Bool
 answers =
     -- a request uses its own bytes, and leaves those behind it
@@ -60,8 +72,14 @@ answers =
     ∷ replies (answerTo (line 0 "DEL k a") kSet) ":1\r\n"
     -- an accepted EXEC
     ∷ replies (answerTo (line 0 "EXEC") queued) "*2\r\n+OK\r\n$1\r\n2\r\n"
+    -- changes count from the WATCH of that key, and EXEC reads the table as it stands
+    ∷ replies (answerTo (line 0 "EXEC") watchedApart) "*1\r\n$1\r\n1\r\n"
+    -- a repeated WATCH keeps the first sequence
+    ∷ replies (answerTo (line 0 "EXEC") watchedTwice) "*-1\r\n"
+    -- a key merely written or checked causes no conflict
+    ∷ replies (answerTo (line 0 "EXEC") writtenOnly) "*2\r\n:5\r\n:1\r\n"
     ∷ []
 
 worked-answers : T (every answers)
-unfolding calls-opens answers every after kSet queued
+unfolding calls-opens answers every after kSet queued watchedApart watchedTwice writtenOnly
 worked-answers = tt

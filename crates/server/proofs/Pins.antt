@@ -14,12 +14,11 @@ use Rattle.resp.specs.Reply.{Integer, array}
 use Rattle.memtable.specs.Table.{Value, Reader}
 use Rattle.memtable.specs.Versions.{Store, commit}
 use Rattle.batch.specs.declared.Verdict.the-variants.{Accepted}
-use Rattle.batch.specs.Group.{verdictAlone}
 use Rattle.server.specs.Names.{Args}
 use Rattle.server.specs.Command.{DEL, EXISTS, Effect, tombstone, liveOne, live, run}
-use Rattle.server.specs.Session.{Session, clear, Done, says, returns, marked, committed, queueFits, queuedReply, enqueue, execute}
+use Rattle.server.specs.Session.{Session, clear, Done, says, returns, marked, committed, queueFits, queuedReply, enqueue, verdictExec, execute}
 use Rattle.server.specs.Finish.{silent, fitted}
-use Rattle.server.proofs.SessionLaws.{ranBy, memberBy, ends, execute-ends}
+use Rattle.server.proofs.SessionLaws.{ranBy, writesBy, ends, execute-ends}
 
 -- 3 leaves all
 pub long-reply : (room used : ℕ) (b : Bytes) (d : Done) (st : Store) (s : Session) → leb (length b) room ≡ false → fitted room used b d st s ≡ silent 3 0 st s
@@ -66,10 +65,10 @@ unfolding committed
 accepted-says e st s = refl
 
 -- an accepted EXEC answers by the array of its commands' replies
-pub exec-says : (q : List Args) (st : Store) (s : Session) → s .failed ≡ false → verdictAlone st (memberBy q st s) ≡ Accepted
-    → execute q st s ≡ says (array (ranBy q st s .replies)) (commit (memberBy q st s .writes) st) clear
+pub exec-says : (q : List Args) (st : Store) (s : Session) → s .failed ≡ false → verdictExec (writesBy q st) st (s .watch) ≡ Accepted
+    → execute q st s ≡ says (array (ranBy q st .replies)) (commit (writesBy q st) st) clear
 unfolding ends
-exec-says q st s f e = execute-ends q st s f ∙ ap (λ v. ends v (ranBy q st s) (memberBy q st s) st s) e
+exec-says q st s f e = execute-ends q st s f ∙ ap (λ v. ends v (ranBy q st) (writesBy q st) st s) e
 
 -- queueing leaves the store
 pub enqueue-leaves : (q : List Args) (a : Args) (st : Store) (s : Session) → enqueue q a st s .store ≡ st

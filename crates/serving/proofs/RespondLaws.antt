@@ -20,7 +20,7 @@ use Rattle.server.specs.declared.Answer.{Answer}
 use Rattle.server.specs.Names.{Args, Row, rowOf, nameWord, arguments, countRight, arity, controlOf}
 use Rattle.names.specs.Rows.{rowAt, Looked}
 use Rattle.server.specs.Command.{Effect, Executed, runs, lists, executedOf, run}
-use Rattle.server.specs.Session.{Session, Result, number, reply, Done, says, returns, committed, direct, execute, respond, watchFits, enqueue, queueFits, queuedReply, marked}
+use Rattle.server.specs.Session.{watchedKeys, Session, Result, number, reply, Done, says, returns, committed, direct, execute, respond, addKeys, watchFits, enqueue, queueFits, queuedReply, marked}
 use Rattle.server.specs.Sessions.{yes?, queueIn, queueOf, sessionFrom, sessionWords, sessionBytes}
 use Rattle.server.specs.Held.{Held}
 use Rattle.server.specs.Finish.{Served, silent, fitted, finishBy, finish}
@@ -31,7 +31,7 @@ use Rattle.answer.proofs.Finish.{replied}
 use Rattle.verdict.specs.Served.{Answers}
 use Rattle.conclude.specs.Leaving.{Leaves}
 use Rattle.exec.specs.Execution.{execServed}
-use Rattle.server.specs.Watch.{keysWith, watchingWith}
+use Rattle.server.specs.Watch.{watchingWith}
 use Rattle.session.specs.declared.routes.Step.{Step}
 use Rattle.session.specs.declared.routes.Step.the-variants.{Open, Unwatch, Clear, Reply as Only}
 use Rattle.session.specs.declared.routes.Way.{Way}
@@ -90,7 +90,7 @@ way-store : (way : Way) (r : Row) (a : Args) (st : Store) (s : Session) → wayD
 unfolding wayDone watchDone watchingAt queueing enqueue changing
 way-store (Steer x) r a st s = step-store x st s
 way-store Watch r a st s =
-    let ks : List Key = keysWith (arguments a) (st .last) s in
+    let ks : List Key = watchedKeys (addKeys (st .last) (arguments a) (s .watch)) in
     either-store (countRight r (length (arguments a))) (watchingAt (arguments a) (st .last) st s) (says (arity r) st s) st
     (either-store (watchFits ks) (says ok st (watchingWith (arguments a) (st .last) s)) (returns 5 st s) st refl refl) refl
 way-store Queue r a st s =

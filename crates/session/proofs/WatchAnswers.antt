@@ -3,14 +3,16 @@ use Prim.Native.Nat.{ℕ, _-_}
 use mathlib.Core.Path.{_≡_, sym, ap, _∙_, subst}
 use mathlib.Core.Bool.{Bool, true, false, cond}
 use mathlib.Core.List.{List, map}
+use native.Mathlib.Omega.{arith}
 use borrow.Author.Tests.{le-leb}
-use lib.ListN.{length}
+use lib.ListN.{length, length-map}
 use Rattle.key.specs.Bytes.{Bytes, part, total}
 use Rattle.key.specs.Keys.{Key}
 use Rattle.writing.specs.declared.Put.{Put}
 use Rattle.writing.specs.declared.Put.the-variants.{Wrote, Full}
 use Rattle.writing.specs.Puts.{Puts}
 use Rattle.resp.specs.Reply.{Reply, encode, ok}
+use Rattle.memtable.specs.Table.{Entry}
 use Rattle.memtable.specs.Versions.{Store}
 use Rattle.server.specs.declared.Answer.{Answer}
 use Rattle.server.specs.declared.Fixed.the-variants.{Ok}
@@ -18,16 +20,16 @@ use Rattle.server.specs.declared.watched.Grown.{Grown}
 use Rattle.server.specs.declared.watched.Grown.the-variants as grown
 use Rattle.server.specs.Names.{rowOf, countRight, arity}
 use Rattle.names.specs.Rows.{rowAt, Looked}
-use Rattle.server.specs.Session.{Session, says, returns, addKeys, watchFits}
-use Rattle.server.specs.Sessions.{keysIn, sessionFrom}
+use Rattle.server.specs.Session.{Watching, watchedKeys, Session, says, returns, addKeys, watchFits}
+use Rattle.server.specs.Sessions.{sessionFrom}
 use Rattle.server.specs.Errors.{fixedReply, arityOf}
 use Rattle.server.specs.Held.{Held}
 use Rattle.server.specs.Places.{argumentsAt}
-use Rattle.server.specs.Watch.{Holding, GrownTo, keysWith, watchingWith, WatchPut}
+use Rattle.server.specs.Watch.{Holding, GrownTo, watchingWith, WatchPut}
 use Rattle.sessions.proofs.Kept.{words-kept, bytes-kept}
 use Rattle.server.proofs.PlaceLaws.{arguments-count}
 use Rattle.sessions.proofs.Watching.{grown-full, grown-holding}
-use Rattle.sessions.proofs.WatchCall.{keys-with, all-watched}
+use Rattle.sessions.proofs.WatchCall.{all-watched}
 use Rattle.server.proofs.ErrorTexts.{arity-as-sent}
 use Rattle.answer.specs.Answers.{refusal}
 use Rattle.session.specs.Answers.{changing, same, Answered, Unchanged}
@@ -37,49 +39,49 @@ use Rattle.answer.proofs.Finish.{Cleared}
 use Rattle.session.proofs.Answering.{answered-same, answered-wrote, answered-full, answered-number}
 
 -- the two branches, by whether the keys fit
-fits-watched : (ks : List Key) (last : ℕ) (st : Store) (s : Session) → watchFits (keysWith ks last s) ≡ true → watchingAt ks last st s ≡ says (fixedReply Ok) st (watchingWith ks last s)
+fits-watched : (ks : List Key) (last : ℕ) (st : Store) (s : Session) → watchFits (watchedKeys (addKeys last ks (s .watch))) ≡ true
+    → watchingAt ks last st s ≡ says (fixedReply Ok) st (watchingWith ks last s)
 unfolding watchingAt fixedReply
 fits-watched ks last st s e = ap (λ (v : Bool). cond v (says ok st (watchingWith ks last s)) (returns 5 st s)) e
 
-no-room : (ks : List Key) (last : ℕ) (st : Store) (s : Session) → watchFits (keysWith ks last s) ≡ false → watchingAt ks last st s ≡ returns 5 st s
+no-room : (ks : List Key) (last : ℕ) (st : Store) (s : Session) → watchFits (watchedKeys (addKeys last ks (s .watch))) ≡ false → watchingAt ks last st s ≡ returns 5 st s
 unfolding watchingAt
 no-room ks last st s e = ap (λ (v : Bool). cond v (says ok st (watchingWith ks last s)) (returns 5 st s)) e
 
-holding-fits : {js : List Key} {lens lens′ : List ℕ} {text text′ : Bytes} {n u : ℕ} → Holding js lens lens′ text text′ n u → watchFits js ≡ true
+holding-fits : {js : Watching} {lens lens′ seqs seqs′ : List ℕ} {text text′ : Bytes} {n u : ℕ} → Holding js lens lens′ seqs seqs′ text text′ n u → watchFits (watchedKeys js) ≡ true
 unfolding watchFits
-holding-fits {js} g = rw (le-leb (length js) 32 (g .few), le-leb (total (map length js)) 2048 (g .short))
+holding-fits {js} g =
+    rw (le-leb (length (watchedKeys js)) 32 (omega (arith, length-map js (λ (e : Entry ℕ). e .0), g .few)), le-leb (total (map length (watchedKeys js))) 2048 (g .short))
 
-module _ {w : List ℕ} {b : Bytes} (h : Held w b) {lens : List ℕ} {text : Bytes} (a : length lens ≡ 32) (c : length text ≡ 2048) (count last used : ℕ) {out : Bytes} (z : Cleared out)
+module _ {w : List ℕ} {b : Bytes} (h : Held w b) {lens seqs : List ℕ} {text : Bytes} (a : length lens ≡ 32) (d : length seqs ≡ 32) (c : length text ≡ 2048) (count used : ℕ) {out : Bytes} (z : Cleared out)
     {put : Put} {out′ : Bytes} (p : Puts (encode (fixedReply Ok)) out put out′) where
-  fits-held : (ks : List Key) (u : ℕ) → Holding (addKeys ks (keysIn w b)) (part 5 32 w) lens (part 0 2048 b) text count u → watchFits (keysWith ks last (sessionFrom w b)) ≡ true
-  fits-held ks u g = ap watchFits (keys-with h ks last) ∙ holding-fits g
-
-  pub keeps-wrote : {w′ : List ℕ} {b′ : Bytes} {k : ℕ} → put ≡ Wrote k → WatchPut lens text count last w w′ b b′
-      → Keeps lens text count last w w′ b b′ used out (record { number = 0; used = used; reply = k }) out′
+  pub keeps-wrote : {w′ : List ℕ} {b′ : Bytes} {k : ℕ} → put ≡ Wrote k → WatchPut lens seqs text count w w′ b b′
+      → Keeps lens seqs text count w w′ b b′ used out (record { number = 0; used = used; reply = k }) out′
   keeps-wrote e kept = record {
-    is = λ ks u g.
-        let all = all-watched h ks last g a c kept in
-        answered-wrote h (watchingAt ks last) used z (fixedReply Ok) (watchingWith ks last (sessionFrom w b)) (λ st. fits-watched ks last st (sessionFrom w b) (fits-held ks u g)) p e (all .words) (all .bytes);
+    is = λ ks last u g.
+        let all = all-watched h ks last g a d c kept in
+        answered-wrote h (watchingAt ks last) used z (fixedReply Ok) (watchingWith ks last (sessionFrom w b)) (λ st. fits-watched ks last st (sessionFrom w b) (holding-fits g)) p e (all .words) (all .bytes);
   }
 
-  pub keeps-full : {r : Answer} → put ≡ Full → r ≡ refusal 3 → Keeps lens text count last w w b b used out r out′
+  pub keeps-full : {r : Answer} → put ≡ Full → r ≡ refusal 3 → Keeps lens seqs text count w w b b used out r out′
   keeps-full {r} e r-is = record {
-    is = λ ks u g.
+    is = λ ks last u g.
         subst (λ (x : Answer). Answered (watchingAt ks last) w w b b used out x out′) (sym r-is)
-        (answered-full h (watchingAt ks last) used z (fixedReply Ok) (watchingWith ks last (sessionFrom w b)) (λ st. fits-watched ks last st (sessionFrom w b) (fits-held ks u g)) p e);
+        (answered-full h (watchingAt ks last) used z (fixedReply Ok) (watchingWith ks last (sessionFrom w b)) (λ st. fits-watched ks last st (sessionFrom w b) (holding-fits g)) p e);
   }
 
 -- from what adding the keys gave
-module _ {w : List ℕ} {b : Bytes} (h : Held w b) (ks : List Key) (last : ℕ) {used : ℕ} {out : Bytes} (z : Cleared out) (lens : List ℕ) (text : Bytes) {grows : Grown}
-    (g : GrownTo (addKeys ks (keysIn w b)) (part 5 32 w) lens (part 0 2048 b) text grows) where
+module _ {w : List ℕ} {b : Bytes} (h : Held w b) (ks : List Key) (last : ℕ) {used : ℕ} {out : Bytes} (z : Cleared out) (lens seqs : List ℕ) (text : Bytes) {grows : Grown}
+    (g : GrownTo (addKeys last ks (sessionFrom w b .watch)) (part 5 32 w) lens (part 37 32 w) seqs (part 0 2048 b) text grows) where
   pub watch-refused : {r : Answer} → grows ≡ grown.Full → r ≡ refusal 5 → Answered (watchingAt ks last) w w b b used out r out
   watch-refused {r} e r-is =
-      let none-fit : watchFits (keysWith ks last (sessionFrom w b)) ≡ false = ap watchFits (keys-with h ks last) ∙ grown-full (addKeys ks (keysIn w b)) (part 5 32 w) lens (part 0 2048 b) text g e in
+      let none-fit = grown-full (addKeys last ks (sessionFrom w b .watch)) (part 5 32 w) lens (part 37 32 w) seqs (part 0 2048 b) text g e in
       subst (λ (x : Answer). Answered (watchingAt ks last) w w b b used out x out) (sym r-is)
       (answered-number h (watchingAt ks last) used z 5 (sessionFrom w b) (λ st. no-room ks last st (sessionFrom w b) none-fit) (sym (words-kept h)) (sym (bytes-kept h)))
 
-  pub watch-kept : {n u : ℕ} {w′ : List ℕ} {b′ : Bytes} {r : Answer} {out′ : Bytes} → grows ≡ grown.To n u → Keeps lens text n last w w′ b b′ used out r out′ → Answered (watchingAt ks last) w w′ b b′ used out r out′
-  watch-kept {n} {u} e k = k .is ks u (grown-holding (addKeys ks (keysIn w b)) (part 5 32 w) lens (part 0 2048 b) text g e)
+  pub watch-kept : {n u : ℕ} {w′ : List ℕ} {b′ : Bytes} {r : Answer} {out′ : Bytes} → grows ≡ grown.To n u → Keeps lens seqs text n w w′ b b′ used out r out′
+      → Answered (watchingAt ks last) w w′ b b′ used out r out′
+  watch-kept {n} {u} e k = k .is ks last u (grown-holding (addKeys last ks (sessionFrom w b .watch)) (part 5 32 w) lens (part 37 32 w) seqs (part 0 2048 b) text g e)
 
 -- THE ARGUMENT COUNT
 module _ {word : Bytes} {row : ℕ} (l : Looked word row) (count : ℕ) (places : List ℕ) (input : Bytes) {right : Bool} (e : right ≡ countRight (rowAt row) (count - 1)) where

@@ -9,11 +9,11 @@ use Rattle.memtable.specs.Versions.{Store}
 use Rattle.server.specs.declared.Fixed.the-variants.{Ok, ExecAlone, DiscardAlone, NestedMulti, WatchInside}
 use Rattle.server.specs.Names.{Args, Row, nameWord, arguments, countRight, arity, Control, MULTI, EXEC, DISCARD, WATCH, UNWATCH, QUIT, other}
 use Rattle.server.specs.Command.{executedOf}
-use Rattle.server.specs.Session.{Session, Done, says, returns, direct, watchFits, enqueue, marked, notQueueable, execute}
+use Rattle.server.specs.Session.{watchedKeys, Session, Done, says, returns, direct, addKeys, watchFits, enqueue, marked, notQueueable, execute}
 use Rattle.server.specs.Sessions.{queueOf}
 use Rattle.server.specs.Errors.{fixedReply}
 use Rattle.server.specs.Held.{cleared, opened, unwatched}
-use Rattle.server.specs.Watch.{keysWith, watchingWith}
+use Rattle.server.specs.Watch.{watchingWith}
 use Rattle.resp.specs.Reply.{ok}
 use Rattle.session.specs.declared.routes.Step.{Step}
 use Rattle.session.specs.declared.routes.Step.the-variants.{Open, Unwatch, Clear, Reply}
@@ -60,7 +60,7 @@ queueing a st s = enqueue (queueOf (s .queue)) a st s
 
 -- WATCH of keys, by the store's last sequence
 unfoldable pub watchingAt : List Key → ℕ → Store → Session → Done
-watchingAt ks last st s = cond (watchFits (keysWith ks last s)) (says ok st (watchingWith ks last s)) (returns 5 st s)
+watchingAt ks last st s = cond (watchFits (watchedKeys (addKeys last ks (s .watch)))) (says ok st (watchingWith ks last s)) (returns 5 st s)
 
 -- WATCH, by its row
 unfoldable pub watchDone : Row → List Key → ℕ → Store → Session → Done
@@ -80,7 +80,7 @@ routeDone Run r a st s = direct (executedOf a) st s
 
 -- what a step asks of the session's words: MULTI is opened outside of it
 pub record Steerable (step : Step) (w : List ℕ) : Type 0 where
-  pub words : length w ≡ 613
+  pub words : length w ≡ 645
   pub outside : step ≡ Open → getD w 0 0 ≡ 0
 
 -- and a way: MULTI is opened outside of it, and a command is queued inside

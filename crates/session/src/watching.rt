@@ -20,22 +20,22 @@ fn keep_watch(
     words: &mut [u64],
     bytes: &mut [u8],
     lens: &[u64],
+    seqs: &[u64],
     text: &[u8],
     count: usize,
-    last: u64,
     out: &mut [u8],
     used: usize,
 ) -> Answer
     requires { ⌜ Held (now words) (now bytes) ⌝ }
-    requires { ⌜ (length (now lens) ≡ 32) × (length (now text) ≡ 2048) ⌝ }
+    requires { ⌜ (length (now lens) ≡ 32) × (length (now seqs) ≡ 32) × (length (now text) ≡ 2048) ⌝ }
     requires { ⌜ now out ≡ replicate (length (now out)) 0 ⌝ }
-    ensures { λ r. ⌜ Keeps (now (lens .entry)) (now (text .entry)) count last (now (words .entry)) (now (words .exit)) (now (bytes .entry)) (now (bytes .exit)) used (now (out .entry)) r (now (out .exit)) ⌝ }
+    ensures { λ r. ⌜ Keeps (now (lens .entry)) (now (seqs .entry)) (now (text .entry)) count (now (words .entry)) (now (words .exit)) (now (bytes .entry)) (now (bytes .exit)) used (now (out .entry)) r (now (out .exit)) ⌝ }
 {
     let put = errors::put_fixed(out, Fixed::Ok);
     let Put::Wrote(n) = put else {
         return answer::refusal(3);
     };
-    watch::keep(words, bytes, lens, text, count, last);
+    watch::keep(words, bytes, lens, seqs, text, count);
     Answer {
         number: 0,
         used: used,
@@ -61,17 +61,28 @@ fn watch_arguments(
     ensures { λ r. ⌜ Answered (watchingAt (argumentsAt 1 (count - 1) (now (places .entry)) (now (input .entry))) last) (now (words .entry)) (now (words .exit)) (now (bytes .entry)) (now (bytes .exit)) used (now (out .entry)) r (now (out .exit)) ⌝ }
 {
     let mut lens = [0u64; 32];
+    let mut seqs = [0u64; 32];
     let mut text = [0u8; 2048];
-    let grown = watch::grow(words, bytes, &mut lens, &mut text, input, places, count);
+    let grown = watch::grow(
+        words,
+        bytes,
+        &mut lens,
+        &mut seqs,
+        &mut text,
+        input,
+        places,
+        count,
+        last,
+    );
     match grown {
         Grown::Full => return answer::refusal(5),
         Grown::To(n, _) => {
-            return keep_watch(words, bytes, &lens, &text, n, last, out, used);
+            return keep_watch(words, bytes, &lens, &seqs, &text, n, out, used);
         }
     }
 }
 
-// WATCH with the name `word`, whose row is `row`: the store's last sequence is the snapshot of the first.
+// WATCH with the name `word`, whose row is `row`: keys that are new to the watch get the store's last sequence.
 pub fn watch_keys(
     words: &mut [u64],
     bytes: &mut [u8],

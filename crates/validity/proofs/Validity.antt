@@ -1,46 +1,73 @@
--- Laws of the tests of one session: positive counts, ascending keys, queued names. Assumes nothing.
+-- Laws of the tests of one session: sequences within the last, positive counts, ascending keys, queued names. Assumes nothing.
 use mathlib.Core.Path.{_≡_, refl, sym, ap, _∙_, subst}
 use mathlib.Core.Bool.{Bool, true, false}
 use mathlib.Core.List.{List, [], _∷_, _++_}
 use Prim.Native.Nat.{ℕ, zero, suc, _+_, _-_, _<_, _≤_}
 use native.Mathlib.Nat.{add-assoc, zero-add}
 use native.Mathlib.Omega.{arith}
+use borrow.Author.Tests.{le-leb, lt-leb}
+use lib.Dec.{leb}
 use lib.ListN.{length, getD, take, drop}
 use lib.Seq.{drop-drop}
 use Rattle.key.specs.Bytes.{Bytes, _and_, part, total}
 use Rattle.key.specs.Keys.{keyBelow}
 use Rattle.server.specs.Names.{Row, rowOf, nameWord}
 use Rattle.names.specs.Rows.{rowAt, Looked}
-use Rattle.server.specs.Sessions.{splitBy, ascending, ascendingAfter, allPositive, allQueueable, yes?}
+use Rattle.server.specs.Sessions.{splitBy, ascending, ascendingAfter, allPositive, allQueueable, yes?, noneAbove}
 use Rattle.server.specs.Lent.{capped, KeysIn, QueueIn}
 use Rattle.server.proofs.LayoutLaws.{flag-nonzero}
 use Rattle.server.proofs.Parts.{part-cons, total-append, part-next, part-none, part-start, part-part, part-add, take-part, drop-part, split-drop}
 use Rattle.sessions.proofs.Sums.{capped-low}
 
+-- THE SEQUENCES: those before i are not above the last.
+pub record Within (last : ℕ) (w : List ℕ) (count i : ℕ) : Type 0 where
+  pub within : i ≤ count
+  pub is : noneAbove last (part 37 count w) ≡ noneAbove last (part (37 + i) (count - i) w)
+
+pub within-none : (last : ℕ) (w : List ℕ) (count : ℕ) → Within last w count 0
+within-none last w count = record { within = omega arith; is = ap (noneAbove last) (part-start w 37 count) }
+
+module _ {last : ℕ} {w : List ℕ} {count i : ℕ} (p : Within last w count i) where
+  within-next : i < count → 37 + count ≤ length w → noneAbove last (part 37 count w) ≡ (leb (getD w (37 + i) 0) last and noneAbove last (part (37 + (i + 1)) (count - (i + 1)) w))
+  unfolding noneAbove
+  within-next h k = p .is ∙ ap (noneAbove last) (part-next w 37 count i 0 h k)
+
+  pub within-more : getD w (37 + i) 0 ≤ last → i < count → 37 + count ≤ length w → Within last w count (i + 1)
+  unfolding _and_
+  within-more l h k = record { within = omega arith; is = within-next h k ∙ rw (le-leb (getD w (37 + i) 0) last l) }
+
+  pub above-here : last < getD w (37 + i) 0 → i < count → 37 + count ≤ length w → false ≡ noneAbove last (part 37 count w)
+  unfolding _and_
+  above-here l h k = sym (within-next h k ∙ rw (lt-leb (getD w (37 + i) 0) last l))
+
+  pub within-all : count ≤ i → true ≡ noneAbove last (part 37 count w)
+  unfolding noneAbove
+  within-all h = sym (p .is ∙ ap (noneAbove last) (part-none w 37 count i h))
+
 -- THE COUNTS: those before place i are not 0.
 pub record Positive (w : List ℕ) (count i : ℕ) : Type 0 where
   pub within : i ≤ count
-  pub is : allPositive (part 37 count w) ≡ allPositive (part (37 + i) (count - i) w)
+  pub is : allPositive (part 69 count w) ≡ allPositive (part (69 + i) (count - i) w)
 
 pub positive-none : (w : List ℕ) (count : ℕ) → Positive w count 0
-positive-none w count = record { within = omega arith; is = ap allPositive (part-start w 37 count) }
+positive-none w count = record { within = omega arith; is = ap allPositive (part-start w 69 count) }
 
 module _ {w : List ℕ} {count i : ℕ} (p : Positive w count i) where
-  pub positive-more : {n : ℕ} → n ≡ getD w (37 + i) 0 → (n ≡ 0 → ⊥) → i < count → 37 + count ≤ length w → Positive w count (i + 1)
+  pub positive-more : {n : ℕ} → n ≡ getD w (69 + i) 0 → (n ≡ 0 → ⊥) → i < count → 69 + count ≤ length w → Positive w count (i + 1)
   unfolding allPositive _and_
   positive-more {n} e ne h k = record {
     within = omega arith;
-    is = p .is ∙ ap allPositive (part-next w 37 count i 0 h k) ∙ ap (λ (v : Bool). v and allPositive (part (37 + (i + 1)) (count - (i + 1)) w)) (ap yes? (sym e) ∙ flag-nonzero n ne);
+    is = p .is ∙ ap allPositive (part-next w 69 count i 0 h k) ∙ ap (λ (v : Bool). v and allPositive (part (69 + (i + 1)) (count - (i + 1)) w)) (ap yes? (sym e) ∙ flag-nonzero n ne);
   }
 
-  pub zero-here : {n : ℕ} → n ≡ getD w (37 + i) 0 → n ≡ 0 → i < count → 37 + count ≤ length w → false ≡ allPositive (part 37 count w)
+  pub zero-here : {n : ℕ} → n ≡ getD w (69 + i) 0 → n ≡ 0 → i < count → 69 + count ≤ length w → false ≡ allPositive (part 69 count w)
   unfolding allPositive _and_
   zero-here {n} e z h k =
-      sym (p .is ∙ ap allPositive (part-next w 37 count i 0 h k) ∙ ap (λ (m : ℕ). yes? m and allPositive (part (37 + (i + 1)) (count - (i + 1)) w)) (sym e ∙ z))
+      sym (p .is ∙ ap allPositive (part-next w 69 count i 0 h k) ∙ ap (λ (m : ℕ). yes? m and allPositive (part (69 + (i + 1)) (count - (i + 1)) w)) (sym e ∙ z))
 
-  pub positive-all : count ≤ i → true ≡ allPositive (part 37 count w)
+  pub positive-all : count ≤ i → true ≡ allPositive (part 69 count w)
   unfolding allPositive
-  positive-all h = sym (p .is ∙ ap allPositive (part-none w 37 count i h))
+  positive-all h = sym (p .is ∙ ap allPositive (part-none w 69 count i h))
 
 -- THE KEYS: those up to place i are ascending; the last of them lies from `start` to `end`.
 pub record Rising (w : List ℕ) (b : Bytes) (count start end i : ℕ) : Type 0 where
@@ -119,30 +146,30 @@ module _ {w : List ℕ} {b : Bytes} {count : ℕ} (k : KeysIn w b count) where
     risen h = sym (r .is ∙ ap (λ (l : List ℕ). ascendingAfter (part start (end - start) b) (splitBy l (drop end (part 0 2048 b)))) (part-none w 5 count i h))
 
 -- THE NAMES. One name, by its row
-pub name-found : (w : List ℕ) (b : Bytes) (first start : ℕ) {n r : ℕ} {v : Bool} → n ≡ getD w (101 + first) 0 → Looked (part (2048 + start) (2048 + start + n - (2048 + start)) b) r
-    → v ≡ rowAt r .queueable → v ≡ rowOf (part (2048 + start) (getD w (101 + first) 0) b) .queueable
+pub name-found : (w : List ℕ) (b : Bytes) (first start : ℕ) {n r : ℕ} {v : Bool} → n ≡ getD w (133 + first) 0 → Looked (part (2048 + start) (2048 + start + n - (2048 + start)) b) r
+    → v ≡ rowAt r .queueable → v ≡ rowOf (part (2048 + start) (getD w (133 + first) 0) b) .queueable
 name-found w b first start {n} {r} e l q =
-    let m : 2048 + start + n - (2048 + start) ≡ getD w (101 + first) 0 = omega arith in
+    let m : 2048 + start + n - (2048 + start) ≡ getD w (133 + first) 0 = omega arith in
     q ∙ ap (λ (x : Row). x .queueable) (l .is) ∙ ap (λ (k : ℕ). rowOf (part (2048 + start) k b) .queueable) m
 
 -- the commands before place i may be queued; `first` is the next one's first argument, and `start` where that starts
 pub record Naming (w : List ℕ) (b : Bytes) (count first start i : ℕ) : Type 0 where
   pub within : i ≤ count
-  pub arguments : first + total (part (37 + i) (count - i) w) ≤ 512
-  pub room : start + total (part (101 + first) (total (part (37 + i) (count - i) w)) w) ≤ 8192
-  pub named : allPositive (part (37 + i) (count - i) w) ≡ true
-  pub is : allQueueable (splitBy (part 37 count w) (splitBy (part 101 (total (part 37 count w)) w) (part 2048 8192 b)))
-      ≡ allQueueable (splitBy (part (37 + i) (count - i) w) (splitBy (part (101 + first) (total (part (37 + i) (count - i) w)) w) (drop start (part 2048 8192 b))))
+  pub arguments : first + total (part (69 + i) (count - i) w) ≤ 512
+  pub room : start + total (part (133 + first) (total (part (69 + i) (count - i) w)) w) ≤ 8192
+  pub named : allPositive (part (69 + i) (count - i) w) ≡ true
+  pub is : allQueueable (splitBy (part 69 count w) (splitBy (part 133 (total (part 69 count w)) w) (part 2048 8192 b)))
+      ≡ allQueueable (splitBy (part (69 + i) (count - i) w) (splitBy (part (133 + first) (total (part (69 + i) (count - i) w)) w) (drop start (part 2048 8192 b))))
 
 pub naming-none : (w : List ℕ) (b : Bytes) (count : ℕ) → QueueIn w b count → Naming w b count 0 0 0
 naming-none w b count q =
-    let e : part 37 count w ≡ part (37 + 0) (count - 0) w = part-start w 37 count in
+    let e : part 69 count w ≡ part (69 + 0) (count - 0) w = part-start w 69 count in
     record {
       within = omega arith;
       arguments = rw (← e) (omega (arith, q .arguments));
       room = rw (← e) (omega (arith, q .room));
       named = ap allPositive (sym e) ∙ q .named;
-      is = ap (λ (l : List ℕ). allQueueable (splitBy l (splitBy (part 101 (total l) w) (part 2048 8192 b)))) e;
+      is = ap (λ (l : List ℕ). allQueueable (splitBy l (splitBy (part 133 (total l) w) (part 2048 8192 b)))) e;
     }
 
 -- what the first of the counts, not 0, tells of the rest
@@ -160,113 +187,113 @@ front-name (suc n) (l ∷ ls) d h k = refl
 
 module _ {w : List ℕ} {b : Bytes} {count : ℕ} (q : QueueIn w b count) {first start i : ℕ} (r : Naming w b count first start i) (h : i < count) where
   -- the counts that are left: the next, and those behind it
-  next-count : part (37 + i) (count - i) w ≡ getD w (37 + i) 0 ∷ part (37 + (i + 1)) (count - (i + 1)) w
-  next-count = part-next w 37 count i 0 h (omega (arith, q .words, q .few))
+  next-count : part (69 + i) (count - i) w ≡ getD w (69 + i) 0 ∷ part (69 + (i + 1)) (count - (i + 1)) w
+  next-count = part-next w 69 count i 0 h (omega (arith, q .words, q .few))
 
-  total-counts : total (part (37 + i) (count - i) w) ≡ getD w (37 + i) 0 + total (part (37 + (i + 1)) (count - (i + 1)) w)
+  total-counts : total (part (69 + i) (count - i) w) ≡ getD w (69 + i) 0 + total (part (69 + (i + 1)) (count - (i + 1)) w)
   unfolding total
   total-counts = ap total next-count
 
-  head-positive : (0 < getD w (37 + i) 0) × (allPositive (part (37 + (i + 1)) (count - (i + 1)) w) ≡ true)
-  head-positive = positive-head (getD w (37 + i) 0) (part (37 + (i + 1)) (count - (i + 1)) w) (ap allPositive (sym next-count) ∙ r .named)
+  head-positive : (0 < getD w (69 + i) 0) × (allPositive (part (69 + (i + 1)) (count - (i + 1)) w) ≡ true)
+  head-positive = positive-head (getD w (69 + i) 0) (part (69 + (i + 1)) (count - (i + 1)) w) (ap allPositive (sym next-count) ∙ r .named)
 
   -- the lengths that are left: those of the next command's arguments, and those behind them
   behind : List ℕ
-  behind = part (101 + (first + getD w (37 + i) 0)) (total (part (37 + (i + 1)) (count - (i + 1)) w)) w
+  behind = part (133 + (first + getD w (69 + i) 0)) (total (part (69 + (i + 1)) (count - (i + 1)) w)) w
 
   lengths : List ℕ
-  lengths = part (101 + first) (total (part (37 + i) (count - i) w)) w
+  lengths = part (133 + first) (total (part (69 + i) (count - i) w)) w
 
   -- the next command's arguments have a length each
-  pub lengths-room : 101 + first + getD w (37 + i) 0 ≤ length w
+  pub lengths-room : 133 + first + getD w (69 + i) 0 ≤ length w
   lengths-room = omega (arith, r .arguments, total-counts, q .words)
 
-  lengths-as : lengths ≡ part (101 + first) (getD w (37 + i) 0 + total (part (37 + (i + 1)) (count - (i + 1)) w)) w
+  lengths-as : lengths ≡ part (133 + first) (getD w (69 + i) 0 + total (part (69 + (i + 1)) (count - (i + 1)) w)) w
   unfolding lengths
-  lengths-as = ap (λ (n : ℕ). part (101 + first) n w) total-counts
+  lengths-as = ap (λ (n : ℕ). part (133 + first) n w) total-counts
 
-  later : (n : ℕ) → part (101 + first + getD w (37 + i) 0) n w ≡ part (101 + (first + getD w (37 + i) 0)) n w
-  later n = ap (λ (x : ℕ). part x n w) (add-assoc 101 first (getD w (37 + i) 0))
+  later : (n : ℕ) → part (133 + first + getD w (69 + i) 0) n w ≡ part (133 + (first + getD w (69 + i) 0)) n w
+  later n = ap (λ (x : ℕ). part x n w) (add-assoc 133 first (getD w (69 + i) 0))
 
-  lengths-cut : lengths ≡ part (101 + first) (getD w (37 + i) 0) w ++ behind
+  lengths-cut : lengths ≡ part (133 + first) (getD w (69 + i) 0) w ++ behind
   unfolding behind
-  lengths-cut = lengths-as ∙ part-add (101 + first) (getD w (37 + i) 0) (total (part (37 + (i + 1)) (count - (i + 1)) w)) w
-      ∙ ap (λ (x : List ℕ). part (101 + first) (getD w (37 + i) 0) w ++ x) (later (total (part (37 + (i + 1)) (count - (i + 1)) w)))
+  lengths-cut = lengths-as ∙ part-add (133 + first) (getD w (69 + i) 0) (total (part (69 + (i + 1)) (count - (i + 1)) w)) w
+      ∙ ap (λ (x : List ℕ). part (133 + first) (getD w (69 + i) 0) w ++ x) (later (total (part (69 + (i + 1)) (count - (i + 1)) w)))
 
-  lengths-total : total lengths ≡ total (part (101 + first) (getD w (37 + i) 0) w) + total behind
-  lengths-total = ap total lengths-cut ∙ total-append (part (101 + first) (getD w (37 + i) 0) w) behind
+  lengths-total : total lengths ≡ total (part (133 + first) (getD w (69 + i) 0) w) + total behind
+  lengths-total = ap total lengths-cut ∙ total-append (part (133 + first) (getD w (69 + i) 0) w) behind
 
-  lengths-drop : drop (getD w (37 + i) 0) lengths ≡ behind
+  lengths-drop : drop (getD w (69 + i) 0) lengths ≡ behind
   unfolding behind
-  lengths-drop = ap (drop (getD w (37 + i) 0)) lengths-as ∙ drop-part (101 + first) (getD w (37 + i) 0) (total (part (37 + (i + 1)) (count - (i + 1)) w)) w lengths-room
-      ∙ later (total (part (37 + (i + 1)) (count - (i + 1)) w))
+  lengths-drop = ap (drop (getD w (69 + i) 0)) lengths-as ∙ drop-part (133 + first) (getD w (69 + i) 0) (total (part (69 + (i + 1)) (count - (i + 1)) w)) w lengths-room
+      ∙ later (total (part (69 + (i + 1)) (count - (i + 1)) w))
 
-  lengths-take : take (getD w (37 + i) 0) lengths ≡ part (101 + first) (getD w (37 + i) 0) w
-  lengths-take = ap (take (getD w (37 + i) 0)) lengths-as ∙ take-part (101 + first) (getD w (37 + i) 0) (total (part (37 + (i + 1)) (count - (i + 1)) w)) w lengths-room
+  lengths-take : take (getD w (69 + i) 0) lengths ≡ part (133 + first) (getD w (69 + i) 0) w
+  lengths-take = ap (take (getD w (69 + i) 0)) lengths-as ∙ take-part (133 + first) (getD w (69 + i) 0) (total (part (69 + (i + 1)) (count - (i + 1)) w)) w lengths-room
 
   -- the first of them is the length of the name
-  lengths-first : lengths ≡ getD w (101 + first) 0 ∷ part (101 + first + 1) (total (part (37 + i) (count - i) w) - 1) w
+  lengths-first : lengths ≡ getD w (133 + first) 0 ∷ part (133 + first + 1) (total (part (69 + i) (count - i) w) - 1) w
   unfolding lengths
   lengths-first =
-      let e : total (part (37 + i) (count - i) w) ≡ suc (total (part (37 + i) (count - i) w) - 1) = omega (arith, total-counts, head-positive .0) in
-      ap (λ (n : ℕ). part (101 + first) n w) e ∙ part-cons w (101 + first) (total (part (37 + i) (count - i) w) - 1) 0 (omega (arith, lengths-room, head-positive .0))
+      let e : total (part (69 + i) (count - i) w) ≡ suc (total (part (69 + i) (count - i) w) - 1) = omega (arith, total-counts, head-positive .0) in
+      ap (λ (n : ℕ). part (133 + first) n w) e ∙ part-cons w (133 + first) (total (part (69 + i) (count - i) w) - 1) 0 (omega (arith, lengths-room, head-positive .0))
 
   room-left : start + total lengths ≤ 8192
   unfolding lengths
   room-left = r .room
 
-  name-fits : start + getD w (101 + first) 0 ≤ 8192
+  name-fits : start + getD w (133 + first) 0 ≤ 8192
   unfolding total
   name-fits = omega (arith, room-left, ap total lengths-first)
 
   -- the name lies in its place
-  pub name-room : (101 + first < length w) × (2048 + start + getD w (101 + first) 0 ≤ length b)
+  pub name-room : (133 + first < length w) × (2048 + start + getD w (133 + first) 0 ≤ length b)
   name-room = (omega (arith, lengths-room, head-positive .0), omega (arith, name-fits, q .bytes))
 
-  name-is : nameWord (take (getD w (37 + i) 0) (splitBy lengths (drop start (part 2048 8192 b)))) ≡ part (2048 + start) (getD w (101 + first) 0) b
+  name-is : nameWord (take (getD w (69 + i) 0) (splitBy lengths (drop start (part 2048 8192 b)))) ≡ part (2048 + start) (getD w (133 + first) 0) b
   name-is =
-      front-name (getD w (37 + i) 0) lengths (drop start (part 2048 8192 b)) (head-positive .0) (rw lengths-first (omega arith))
-      ∙ ap (λ (l : List ℕ). take (getD l 0 0) (drop start (part 2048 8192 b))) lengths-first ∙ part-part 2048 8192 start (getD w (101 + first) 0) b name-fits
+      front-name (getD w (69 + i) 0) lengths (drop start (part 2048 8192 b)) (head-positive .0) (rw lengths-first (omega arith))
+      ∙ ap (λ (l : List ℕ). take (getD l 0 0) (drop start (part 2048 8192 b))) lengths-first ∙ part-part 2048 8192 start (getD w (133 + first) 0) b name-fits
 
-  rest-is : drop (getD w (37 + i) 0) (splitBy lengths (drop start (part 2048 8192 b)))
-      ≡ splitBy behind (drop (start + total (part (101 + first) (getD w (37 + i) 0) w)) (part 2048 8192 b))
+  rest-is : drop (getD w (69 + i) 0) (splitBy lengths (drop start (part 2048 8192 b)))
+      ≡ splitBy behind (drop (start + total (part (133 + first) (getD w (69 + i) 0) w)) (part 2048 8192 b))
   rest-is =
-      split-drop (getD w (37 + i) 0) lengths (drop start (part 2048 8192 b))
+      split-drop (getD w (69 + i) 0) lengths (drop start (part 2048 8192 b))
       ∙ (λ z. splitBy (lengths-drop z) (drop (total (lengths-take z)) (drop start (part 2048 8192 b))))
-      ∙ ap (splitBy behind) (drop-drop (total (part (101 + first) (getD w (37 + i) 0) w)) start (part 2048 8192 b))
+      ∙ ap (splitBy behind) (drop-drop (total (part (133 + first) (getD w (69 + i) 0) w)) start (part 2048 8192 b))
 
-  naming-step : allQueueable (splitBy (part 37 count w) (splitBy (part 101 (total (part 37 count w)) w) (part 2048 8192 b)))
-      ≡ (rowOf (part (2048 + start) (getD w (101 + first) 0) b) .queueable
-      and allQueueable (splitBy (part (37 + (i + 1)) (count - (i + 1)) w) (splitBy behind (drop (start + total (part (101 + first) (getD w (37 + i) 0) w)) (part 2048 8192 b)))))
+  naming-step : allQueueable (splitBy (part 69 count w) (splitBy (part 133 (total (part 69 count w)) w) (part 2048 8192 b)))
+      ≡ (rowOf (part (2048 + start) (getD w (133 + first) 0) b) .queueable
+      and allQueueable (splitBy (part (69 + (i + 1)) (count - (i + 1)) w) (splitBy behind (drop (start + total (part (133 + first) (getD w (69 + i) 0) w)) (part 2048 8192 b)))))
   unfolding splitBy allQueueable lengths
   naming-step =
       r .is ∙ ap (λ (l : List ℕ). allQueueable (splitBy l (splitBy lengths (drop start (part 2048 8192 b))))) next-count
-      ∙ (λ z. rowOf (name-is z) .queueable and allQueueable (splitBy (part (37 + (i + 1)) (count - (i + 1)) w) (rest-is z)))
+      ∙ (λ z. rowOf (name-is z) .queueable and allQueueable (splitBy (part (69 + (i + 1)) (count - (i + 1)) w) (rest-is z)))
 
-  sum-small : total (part (101 + first) (getD w (37 + i) 0) w) ≤ 8192
+  sum-small : total (part (133 + first) (getD w (69 + i) 0) w) ≤ 8192
   sum-small = omega (arith, room-left, lengths-total)
 
-  module _ {v : Bool} (e : v ≡ rowOf (part (2048 + start) (getD w (101 + first) 0) b) .queueable) where
-    pub not-queueable : v ≡ false → false ≡ allQueueable (splitBy (part 37 count w) (splitBy (part 101 (total (part 37 count w)) w) (part 2048 8192 b)))
+  module _ {v : Bool} (e : v ≡ rowOf (part (2048 + start) (getD w (133 + first) 0) b) .queueable) where
+    pub not-queueable : v ≡ false → false ≡ allQueueable (splitBy (part 69 count w) (splitBy (part 133 (total (part 69 count w)) w) (part 2048 8192 b)))
     unfolding _and_
     not-queueable f =
-        sym (naming-step ∙ ap (λ (x : Bool). x and allQueueable (splitBy (part (37 + (i + 1)) (count - (i + 1)) w) (splitBy behind (drop (start + total (part (101 + first) (getD w (37 + i) 0) w)) (part 2048 8192 b))))) (sym e ∙ f))
+        sym (naming-step ∙ ap (λ (x : Bool). x and allQueueable (splitBy (part (69 + (i + 1)) (count - (i + 1)) w) (splitBy behind (drop (start + total (part (133 + first) (getD w (69 + i) 0) w)) (part 2048 8192 b))))) (sym e ∙ f))
 
-    module _ {n sum : ℕ} (a : n ≡ getD w (37 + i) 0) (s : sum ≡ capped 8192 (total (part (101 + first) n w))) where
-      sum-is : sum ≡ total (part (101 + first) (getD w (37 + i) 0) w)
-      sum-is = s ∙ ap (λ (x : ℕ). capped 8192 (total (part (101 + first) x w))) a ∙ capped-low 8192 _ sum-small
+    module _ {n sum : ℕ} (a : n ≡ getD w (69 + i) 0) (s : sum ≡ capped 8192 (total (part (133 + first) n w))) where
+      sum-is : sum ≡ total (part (133 + first) (getD w (69 + i) 0) w)
+      sum-is = s ∙ ap (λ (x : ℕ). capped 8192 (total (part (133 + first) x w))) a ∙ capped-low 8192 _ sum-small
 
       pub naming-more : v ≡ true → Naming w b count (first + n) (start + sum) (i + 1)
       unfolding _and_ behind
       naming-more t =
           subst (λ (x : ℕ). Naming w b count (first + x) (start + sum) (i + 1)) (sym a)
-          (subst (λ (x : ℕ). Naming w b count (first + getD w (37 + i) 0) (start + x) (i + 1)) (sym sum-is)
+          (subst (λ (x : ℕ). Naming w b count (first + getD w (69 + i) 0) (start + x) (i + 1)) (sym sum-is)
           (record {
             within = omega arith;
             arguments = omega (arith, r .arguments, total-counts);
             room = omega (arith, room-left, lengths-total);
             named = head-positive .1;
-            is = naming-step ∙ ap (λ (x : Bool). x and allQueueable (splitBy (part (37 + (i + 1)) (count - (i + 1)) w) (splitBy behind (drop (start + total (part (101 + first) (getD w (37 + i) 0) w)) (part 2048 8192 b))))) (sym e ∙ t);
+            is = naming-step ∙ ap (λ (x : Bool). x and allQueueable (splitBy (part (69 + (i + 1)) (count - (i + 1)) w) (splitBy behind (drop (start + total (part (133 + first) (getD w (69 + i) 0) w)) (part 2048 8192 b))))) (sym e ∙ t);
           }))
 
       -- the next places fit
@@ -274,7 +301,7 @@ module _ {w : List ℕ} {b : Bytes} {count : ℕ} (q : QueueIn w b count) {first
       places-fit = (omega (arith, r .arguments, total-counts), omega (arith, sum-is, room-left, lengths-total))
 
 pub all-queueable : {w : List ℕ} {b : Bytes} {count first start i : ℕ} → Naming w b count first start i → count ≤ i
-    → true ≡ allQueueable (splitBy (part 37 count w) (splitBy (part 101 (total (part 37 count w)) w) (part 2048 8192 b)))
+    → true ≡ allQueueable (splitBy (part 69 count w) (splitBy (part 133 (total (part 69 count w)) w) (part 2048 8192 b)))
 unfolding splitBy allQueueable
 all-queueable {w} {b} {count} {first} {start} {i} r h =
-    sym (r .is ∙ ap (λ (l : List ℕ). allQueueable (splitBy l (splitBy (part (101 + first) (total l) w) (drop start (part 2048 8192 b))))) (part-none w 37 count i h))
+    sym (r .is ∙ ap (λ (l : List ℕ). allQueueable (splitBy l (splitBy (part (133 + first) (total l) w) (drop start (part 2048 8192 b))))) (part-none w 69 count i h))

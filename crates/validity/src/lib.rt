@@ -6,12 +6,12 @@ ghost use lib.ListN.{length, getD};
 ghost use Rattle.key.specs.Bytes.{part, total};
 ghost use Rattle.key.specs.Keys.{keyBelow};
 ghost use Rattle.server.specs.Names.{rowOf};
-ghost use Rattle.server.specs.Sessions.{splitBy, ascending, allPositive, allQueueable, watchOk, queueOk, sessionOk, validSessions};
+ghost use Rattle.server.specs.Sessions.{splitBy, ascending, allPositive, allQueueable, noneAbove, watchOk, queueOk, sessionOk, validSessions};
 ghost use Rattle.server.specs.Lent.{OneSession, KeysIn, QueueIn, queueSizesOk};
 
 pub const SESSIONS: usize = 16;
 
-pub const WORDS: usize = 613;
+pub const WORDS: usize = 645;
 
 pub const BYTES: usize = 10240;
 
@@ -52,14 +52,29 @@ fn keys_ascending(words: &[u64], bytes: &[u8], count: usize) -> bool
     true
 }
 
-// Has each of the queued commands an argument, its name?
-fn counts_positive(words: &[u64], count: usize) -> bool
+// Is no sequence of the first `count` watched keys above the last?
+fn sequences_within(words: &[u64], count: usize, last: u64) -> bool
     requires { ⌜ 37 + count ≤ length (now words) ⌝ }
-    ensures { λ r. ⌜ r ≡ allPositive (part 37 count (now (words .entry))) ⌝ }
+    ensures { λ r. ⌜ r ≡ noneAbove last (part 37 count (now (words .entry))) ⌝ }
 {
     let mut i = 0;
     while i < count {
-        if sessions::word(words, 37 + i) == 0 {
+        if last < words[37 + i] {
+            return false;
+        }
+        i += 1;
+    }
+    true
+}
+
+// Has each of the queued commands an argument, its name?
+fn counts_positive(words: &[u64], count: usize) -> bool
+    requires { ⌜ 69 + count ≤ length (now words) ⌝ }
+    ensures { λ r. ⌜ r ≡ allPositive (part 69 count (now (words .entry))) ⌝ }
+{
+    let mut i = 0;
+    while i < count {
+        if sessions::word(words, 69 + i) == 0 {
             return false;
         }
         i += 1;
@@ -69,11 +84,11 @@ fn counts_positive(words: &[u64], count: usize) -> bool
 
 // May the command be queued whose name is argument `first` and starts at `start` of the queue's bytes?
 fn name_queueable(words: &[u64], bytes: &[u8], first: usize, start: usize) -> bool
-    requires { ⌜ (101 + first < length (now words)) × (2048 + start + getD (now words) (101 + first) 0 ≤ length (now bytes)) ⌝ }
-    ensures { λ r. ⌜ r ≡ rowOf (part (2048 + start) (getD (now (words .entry)) (101 + first) 0) (now (bytes .entry))) .queueable ⌝ }
+    requires { ⌜ (133 + first < length (now words)) × (2048 + start + getD (now words) (133 + first) 0 ≤ length (now bytes)) ⌝ }
+    ensures { λ r. ⌜ r ≡ rowOf (part (2048 + start) (getD (now (words .entry)) (133 + first) 0) (now (bytes .entry))) .queueable ⌝ }
 {
     let from = 2048 + start;
-    let to = from + sessions::word(words, 101 + first);
+    let to = from + sessions::word(words, 133 + first);
     let row = names::look_up(&bytes[from..to]);
     names::queueable(row)
 }
@@ -81,15 +96,15 @@ fn name_queueable(words: &[u64], bytes: &[u8], first: usize, start: usize) -> bo
 // May all the queued commands be queued?
 fn names_queueable(words: &[u64], bytes: &[u8], count: usize) -> bool
     requires { ⌜ QueueIn (now words) (now bytes) count ⌝ }
-    ensures { λ r. ⌜ r ≡ allQueueable (splitBy (part 37 count (now (words .entry))) (splitBy (part 101 (total (part 37 count (now (words .entry)))) (now (words .entry))) (part 2048 8192 (now (bytes .entry))))) ⌝ }
+    ensures { λ r. ⌜ r ≡ allQueueable (splitBy (part 69 count (now (words .entry))) (splitBy (part 133 (total (part 69 count (now (words .entry)))) (now (words .entry))) (part 2048 8192 (now (bytes .entry))))) ⌝ }
 {
     let mut first = 0;
     let mut start = 0;
     let mut i = 0;
     while i < count {
         if name_queueable(words, bytes, first, start) {
-            let size = sessions::word(words, 37 + i);
-            start += sessions::sum_within(words, 101 + first, size, 8192);
+            let size = sessions::word(words, 69 + i);
+            start += sessions::sum_within(words, 133 + first, size, 8192);
             first += size;
             i += 1;
         } else {
@@ -99,7 +114,7 @@ fn names_queueable(words: &[u64], bytes: &[u8], count: usize) -> bool
     true
 }
 
-// The watch of a session: within its limits, keys ascending, and a held snapshot not above the last sequence.
+// The watch of a session: within its limits, keys ascending, and none of their sequences above the last.
 fn watch_ok(words: &[u64], bytes: &[u8], last: u64) -> bool
     requires { ⌜ OneSession (now words) (now bytes) ⌝ }
     ensures { λ r. ⌜ r ≡ watchOk last (now (words .entry)) (now (bytes .entry)) ⌝ }
@@ -112,28 +127,25 @@ fn watch_ok(words: &[u64], bytes: &[u8], last: u64) -> bool
         return false;
     }
     if keys_ascending(words, bytes, watched) {
-        if watched == 0 {
-            return true;
-        }
-        return words[2] <= last;
+        return sequences_within(words, watched, last);
     }
     false
 }
 
 // The sizes of the queue of a session are within their limits.
 fn queue_fits(words: &[u64]) -> bool
-    requires { ⌜ length (now words) ≡ 613 ⌝ }
+    requires { ⌜ length (now words) ≡ 645 ⌝ }
     ensures { λ r. ⌜ r ≡ queueSizesOk (now (words .entry)) ⌝ }
 {
     let queued = sessions::word(words, 4);
     if 64 < queued {
         return false;
     }
-    let arguments = sessions::sum_within(words, 37, queued, 512);
+    let arguments = sessions::sum_within(words, 69, queued, 512);
     if 512 < arguments {
         return false;
     }
-    if 8192 < sessions::sum_within(words, 101, arguments, 8192) {
+    if 8192 < sessions::sum_within(words, 133, arguments, 8192) {
         return false;
     }
     counts_positive(words, queued)

@@ -1,4 +1,4 @@
-// The watched keys of one session, ascending: lengths in a table of 32 words, bytes one behind the other.
+// The watched keys of one session, ascending: lengths and sequences in tables of 32 words, bytes one behind the other.
 use key::Order;
 use server::watched::Grown;
 use server::watched::Spot;
@@ -10,11 +10,11 @@ ghost use lib.ListN.{length, take};
 ghost use Rattle.memtable.specs.Moves.{putAt};
 ghost use Rattle.key.specs.Bytes.{part, over-front};
 ghost use Rattle.server.specs.Session.{addKey, addKeys};
-ghost use Rattle.server.specs.Sessions.{keysIn};
+ghost use Rattle.server.specs.Sessions.{sessionFrom};
 ghost use Rattle.server.specs.Lent.{OneSession};
 ghost use Rattle.server.specs.Held.{Held};
 ghost use Rattle.server.specs.Places.{argumentsAt, PartsIn};
-ghost use Rattle.server.specs.Watch.{keysOf, KeysAt, insertedAt, Spotted, GrownTo, WatchTable, WatchPut};
+ghost use Rattle.server.specs.Watch.{KeysAt, insertedAt, Spotted, GrownTo, WatchTable, watchOf, WatchPut};
 
 fn find_spot(lens: &[u64], text: &[u8], count: usize, name: &[u8]) -> Spot
     requires { ⌜ KeysAt (now lens) (now text) count ⌝ }
@@ -59,10 +59,18 @@ fn insert_bytes(text: &mut [u8], at: usize, used: usize, name: &[u8])
     merge::put(text, at, name);
 }
 
-// Adds a key in its place, unless it is there; `Full` if there is no room for it.
-fn add_key(lens: &mut [u64], text: &mut [u8], count: usize, used: usize, name: &[u8]) -> Grown
-    requires { ⌜ WatchTable (now lens) (now text) count used ⌝ }
-    ensures { λ r. ⌜ GrownTo (addKey (now (name .entry)) (keysOf (now (lens .entry)) (now (text .entry)) count)) (now (lens .entry)) (now (lens .exit)) (now (text .entry)) (now (text .exit)) r ⌝ }
+// Adds a key with the sequence `last` in its place, unless it is there; `Full` if there is no room for it.
+fn add_key(
+    lens: &mut [u64],
+    seqs: &mut [u64],
+    text: &mut [u8],
+    count: usize,
+    used: usize,
+    last: u64,
+    name: &[u8],
+) -> Grown
+    requires { ⌜ WatchTable (now lens) (now seqs) (now text) count used ⌝ }
+    ensures { λ r. ⌜ GrownTo (addKey last (now (name .entry)) (watchOf (now (lens .entry)) (now (seqs .entry)) (now (text .entry)) count)) (now (lens .entry)) (now (lens .exit)) (now (seqs .entry)) (now (seqs .exit)) (now (text .entry)) (now (text .exit)) r ⌝ }
 {
     let spot = find_spot(lens, text, count, name);
     match spot {
@@ -76,6 +84,7 @@ fn add_key(lens: &mut [u64], text: &mut [u8], count: usize, used: usize, name: &
                 return Grown::Full;
             }
             insert_word(lens, i, count, len as u64);
+            insert_word(seqs, i, count, last);
             insert_bytes(text, start, used, name);
             return Grown::To(count + 1, used + len);
         }
@@ -85,18 +94,20 @@ fn add_key(lens: &mut [u64], text: &mut [u8], count: usize, used: usize, name: &
 // Adds the keys of the places from `from` to `to`, each in its place; `Full` if there is no room for them all.
 fn add_keys(
     lens: &mut [u64],
+    seqs: &mut [u64],
     text: &mut [u8],
     count: usize,
     used: usize,
+    last: u64,
     input: &[u8],
     places: &[u64],
     from: usize,
     to: usize,
 ) -> Grown
-    requires { ⌜ WatchTable (now lens) (now text) count used ⌝ }
+    requires { ⌜ WatchTable (now lens) (now seqs) (now text) count used ⌝ }
     requires { ⌜ PartsIn (now places) (now input) to ⌝ }
     requires { ⌜ from ≤ to ⌝ }
-    ensures { λ r. ⌜ GrownTo (addKeys (argumentsAt from (to - from) (now (places .entry)) (now (input .entry))) (keysOf (now (lens .entry)) (now (text .entry)) count)) (now (lens .entry)) (now (lens .exit)) (now (text .entry)) (now (text .exit)) r ⌝ }
+    ensures { λ r. ⌜ GrownTo (addKeys last (argumentsAt from (to - from) (now (places .entry)) (now (input .entry))) (watchOf (now (lens .entry)) (now (seqs .entry)) (now (text .entry)) count)) (now (lens .entry)) (now (lens .exit)) (now (seqs .entry)) (now (seqs .exit)) (now (text .entry)) (now (text .exit)) r ⌝ }
 {
     let mut n = count;
     let mut u = used;
@@ -104,7 +115,7 @@ fn add_keys(
     while i < to {
         let start = sessions::word(places, 2 * i);
         let end = start + sessions::word(places, 2 * i + 1);
-        let grown = add_key(lens, text, n, u, &input[start..end]);
+        let grown = add_key(lens, seqs, text, n, u, last, &input[start..end]);
         match grown {
             Grown::Full => return Grown::Full,
             Grown::To(keys, size) => {
@@ -134,35 +145,52 @@ pub fn grow(
     words: &[u64],
     bytes: &[u8],
     lens: &mut [u64],
+    seqs: &mut [u64],
     text: &mut [u8],
     input: &[u8],
     places: &[u64],
     count: usize,
+    last: u64,
 ) -> Grown
     requires { ⌜ Held (now words) (now bytes) ⌝ }
     requires { ⌜ PartsIn (now places) (now input) count ⌝ }
-    requires { ⌜ (1 ≤ count) × (length (now lens) ≡ 32) × (length (now text) ≡ 2048) ⌝ }
-    ensures { λ r. ⌜ GrownTo (addKeys (argumentsAt 1 (count - 1) (now (places .entry)) (now (input .entry))) (keysIn (now (words .entry)) (now (bytes .entry)))) (part 5 32 (now (words .entry))) (now (lens .exit)) (part 0 2048 (now (bytes .entry))) (now (text .exit)) r ⌝ }
+    requires { ⌜ (1 ≤ count) × (length (now lens) ≡ 32) × (length (now seqs) ≡ 32) × (length (now text) ≡ 2048) ⌝ }
+    ensures { λ r. ⌜ GrownTo (addKeys last (argumentsAt 1 (count - 1) (now (places .entry)) (now (input .entry))) (sessionFrom (now (words .entry)) (now (bytes .entry)) .watch)) (part 5 32 (now (words .entry))) (now (lens .exit)) (part 37 32 (now (words .entry))) (now (seqs .exit)) (part 0 2048 (now (bytes .entry))) (now (text .exit)) r ⌝ }
 {
     let watched = sessions::word(words, 3);
     let used = sessions::sum_within(words, 5, watched, 2048);
     put_words(lens, 0, &words[5..37]);
+    put_words(seqs, 0, &words[37..69]);
     merge::put(text, 0, &bytes[0..2048]);
-    add_keys(lens, text, watched, used, input, places, 1, count)
+    add_keys(
+        lens,
+        seqs,
+        text,
+        watched,
+        used,
+        last,
+        input,
+        places,
+        1,
+        count,
+    )
 }
 
-// Puts the `count` keys of working memory in their places. The first watch fixes the snapshot.
-pub fn keep(words: &mut [u64], bytes: &mut [u8], lens: &[u64], text: &[u8], count: usize, last: u64)
+// Puts the `count` keys of working memory in their places.
+pub fn keep(
+    words: &mut [u64],
+    bytes: &mut [u8],
+    lens: &[u64],
+    seqs: &[u64],
+    text: &[u8],
+    count: usize,
+)
     requires { ⌜ OneSession (now words) (now bytes) ⌝ }
-    requires { ⌜ (length (now lens) ≡ 32) × (length (now text) ≡ 2048) ⌝ }
-    ensures { λ _. ⌜ WatchPut (now (lens .entry)) (now (text .entry)) count last (now (words .entry)) (now (words .exit)) (now (bytes .entry)) (now (bytes .exit)) ⌝ }
+    requires { ⌜ (length (now lens) ≡ 32) × (length (now seqs) ≡ 32) × (length (now text) ≡ 2048) ⌝ }
+    ensures { λ _. ⌜ WatchPut (now (lens .entry)) (now (seqs .entry)) (now (text .entry)) count (now (words .entry)) (now (words .exit)) (now (bytes .entry)) (now (bytes .exit)) ⌝ }
 {
-    let watched = sessions::word(words, 3);
     put_words(words, 5, lens);
+    put_words(words, 37, seqs);
     merge::put(bytes, 0, text);
     words[3] = count as u64;
-    if watched == 0 {
-        words[2] = last;
-        return;
-    }
 }

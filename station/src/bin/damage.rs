@@ -157,7 +157,7 @@ const DAMAGES: [(&str, Damage); 37] = [
         s.session_words[at + WATCH_LENGTHS..][..2].fill(2);
         Some(s.session_bytes[bytes..bytes + 4].copy_from_slice(b"aaaa"))
     }),
-    ("a held snapshot above the last", |s, r| session_with(s, r, 3, 1).map(|at| s.session_words[at + 2] = s.words[2] + 1 + r.below(3) as u64)),
+    ("a sequence of a watched key above the last", |s, r| session_with(s, r, 3, 1).map(|at| s.session_words[at + 37] = s.words[2] + 1 + r.below(3) as u64)),
     ("more than 64 queued commands", |s, r| session_with(s, r, 4, 1).map(|at| s.session_words[at + 4] = if r.once_in(2) { 65 } else { *r.pick(&HUGE) })),
     ("a queued command without arguments", |s, r| session_with(s, r, 4, 1).map(|at| s.session_words[at + ARGUMENT_COUNTS] = 0)),
     ("more than 512 queued arguments", |s, r| session_with(s, r, 4, 1).map(|at| s.session_words[at + ARGUMENT_COUNTS] = if r.once_in(2) { 513 } else { *r.pick(&HUGE) })),
@@ -267,7 +267,7 @@ fn random_words(random: &mut Random, count: usize) {
             state.words[random.below(rows)] = value;
         } else {
             let session = random.below(SESSIONS) * SESSION_WORDS;
-            let word = *random.pick(&[0, 1, 2, 3, 4, 5, 6, 7, 37, 38, 39, 101, 102, 103, 104]);
+            let word = *random.pick(&[0, 1, 2, 3, 4, 5, 6, 7, 37, 38, 69, 70, 71, 133, 134, 135, 136]);
             state.session_words[session + word] = value;
         }
         let bad = !(store_ok(&state) && sessions_ok(&state));

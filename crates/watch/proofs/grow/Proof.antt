@@ -1,4 +1,4 @@
--- `watch::grow` meets its contract. The table and the bytes are copied, and the keys added there, `copied-grown`. Assumes nothing.
+-- `watch::grow` meets its contract. The tables and the bytes are copied, and the keys added there, `copied-grown`. Assumes nothing.
 use Prim.Native.Nat.{_-_}
 use Rattle.server.specs.Places.{argumentsAt}
 use Rattle.sessions.proofs.WatchCall.{copied-table, copied-grown}
@@ -24,6 +24,18 @@ part-put-words-end c = search needs
 put-words-requires : tie.Need-put-words-requires
 put-words-requires c κs = search needs
 
+sub-put-words-2 : tie.Need-sub-put-words-2
+sub-put-words-2 c = search needs
+
+part-put-words-start-2 : tie.Need-part-put-words-start-2
+part-put-words-start-2 c = search needs
+
+part-put-words-end-2 : tie.Need-part-put-words-end-2
+part-put-words-end-2 c = search needs
+
+put-words-requires-2 : tie.Need-put-words-requires-2
+put-words-requires-2 c κs = search needs
+
 sub-put : tie.Need-sub-put
 sub-put c = search needs
 
@@ -37,7 +49,11 @@ put-requires : tie.Need-put-requires
 put-requires c κs = search needs
 
 add-keys-requires : tie.Need-add-keys-requires
-add-keys-requires c κs = (search copied-table, (search needs, search needs))
+add-keys-requires c κs =
+    let start = c .before .before .before .before .before .before .before .before .before .before .before .before .before .before .before .before .before .before .before .before .before .before .before .before .before .before .before in (
+      copied-table (start .pre .0) (c .before .before .before .before .before .before .before .before .before .before .before .before .before .before .before .before .before .before .before .word .ensures) (c .before .before .before .before .before .before .before .before .before .before .before .before .before .before .before .before .before .before .sum-within .ensures) _ _ _ (start .pre .1 .1 .1) (start .pre .1 .1 .2) (start .pre .1 .1 .3) (c .before .before .before .before .before .before .before .before .before .before .before .before .before .before .before .put-words .ensures) (c .before .before .before .before .before .before .before .before .before .before .put-words2 .ensures) (c .before .before .before .before .before .put .ensures),
+      (start .pre .1 .0, start .pre .1 .1 .0),
+    )
 
 same-length : tie.Need-same-length
 same-length c = search needs
@@ -45,12 +61,15 @@ same-length c = search needs
 same-length-2 : tie.Need-same-length-2
 same-length-2 c = search needs
 
+same-length-3 : tie.Need-same-length-3
+same-length-3 c = search needs
+
 returns : tie.Need-returns
 returns c =
-    let start = c .before .before .before .before .before .before .before .before .before .before .before .before .before .before .before .before .before .before .before .before .before .before .before .before .before in
-    let added = c .before .before .before .before .add-keys in
-    copied-grown (start .pre .0) (c .before .before .before .before .before .before .before .before .before .before .before .before .before .before .before .before .before .before .word .ensures) (c .before .before .before .before .before .before .before .before .before .before .before .before .before .before .before .before .before .sum-within .ensures) _ _ (start .pre .1 .1 .1) (start .pre .1 .1 .2) (c .before .before .before .before .before .before .before .before .before .before .before .before .before .before .put-words .ensures) (c .before .before .before .before .before .before .before .before .before .put .ensures)
-    (argumentsAt 1 (start .args .count - 1) (start .args .places .now) (start .args .input .now)) (added .last .0) (added .last .1 .0) (added .result) (added .ensures)
+    let start = c .before .before .before .before .before .before .before .before .before .before .before .before .before .before .before .before .before .before .before .before .before .before .before .before .before .before .before .before .before .before .before .before .before .before in
+    let added = c .before .before .before .before .before .before .add-keys in
+    copied-grown (start .pre .0) (c .before .before .before .before .before .before .before .before .before .before .before .before .before .before .before .before .before .before .before .before .before .before .before .before .before .before .word .ensures) (c .before .before .before .before .before .before .before .before .before .before .before .before .before .before .before .before .before .before .before .before .before .before .before .before .before .sum-within .ensures) _ _ _ (start .pre .1 .1 .1) (start .pre .1 .1 .2) (start .pre .1 .1 .3) (c .before .before .before .before .before .before .before .before .before .before .before .before .before .before .before .before .before .before .before .before .before .before .put-words .ensures) (c .before .before .before .before .before .before .before .before .before .before .before .before .before .before .before .before .before .put-words2 .ensures) (c .before .before .before .before .before .before .before .before .before .before .before .before .put .ensures)
+    (start .args .last) (argumentsAt 1 (start .args .count - 1) (start .args .places .now) (start .args .input .now)) (added .last .0) (added .last .1 .0) (added .last .1 .1 .0) (added .result) (added .ensures)
 
 pub grow-spec : {M : Type 1} → statement M
 grow-spec =
@@ -62,6 +81,10 @@ grow-spec =
     part-put-words-start
     part-put-words-end
     put-words-requires
+    sub-put-words-2
+    part-put-words-start-2
+    part-put-words-end-2
+    put-words-requires-2
     sub-put
     part-put-start
     part-put-end
@@ -69,4 +92,5 @@ grow-spec =
     add-keys-requires
     same-length
     same-length-2
+    same-length-3
     returns)

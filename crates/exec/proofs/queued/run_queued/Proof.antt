@@ -26,7 +26,7 @@ slice-aggregate-run-pairs : tie.Need-slice-aggregate-run-pairs
 slice-aggregate-run-pairs c = search lent-used
 
 run-pairs-requires : tie.Need-run-pairs-requires
-run-pairs-requires c κs = (search needs, (search needs, (search needs, (search pairs-counted, search needs))))
+run-pairs-requires c κs = (search needs, (search needs, (search pairs-counted, search needs)))
 
 enum-told-2 : tie.Need-enum-told-2
 enum-told-2 c = search needs

@@ -23,14 +23,14 @@ same-length-2 c = search needs
 returns : tie.Need-returns
 returns c = exec-failed _ _ _ _ _ _ _ (c .before .before .before .before .before .before .before .before .before .before .before .before .before .before .before .before .pre .0) (c .before .before .before .before .before .before .before .before .before .before .before .before .before .before .before .before .pre .1 .0) (c .before .before .before .before .before .before .before .before .before .before .before .before .before .before .before .before .pre .1 .1 .0) (c .before .before .before .before .before .before .before .before .before .before .before .before .before .before .before .before .pre .1 .1 .1) (c .before .before .before .before .before .before .before .before .before .failed .ensures) (c .before .before .before .before .before .before .before .before .if1 .taken) (c .before .before .before .before .before .before .put-fixed .ensures) (c .before .before .close .ensures)
 
-read-sequence-requires : tie.Need-read-sequence-requires
-read-sequence-requires c κs = search needs
-
 watched-moved-requires : tie.Need-watched-moved-requires
-watched-moved-requires c κs = (held-by-tests _ _ _ (c .before .before .before .before .before .before .before .before .before .before .before .before .before .before .pre .0) (c .before .before .before .before .before .before .before .before .before .before .before .before .before .before .pre .1 .0), c .before .before .before .before .before .before .before .before .before .before .before .before .before .before .pre .1 .1 .0)
+watched-moved-requires c κs = (held-by-tests _ _ _ (c .before .before .before .before .before .before .before .before .before .before .before .pre .0) (c .before .before .before .before .before .before .before .before .before .before .before .pre .1 .0), c .before .before .before .before .before .before .before .before .before .before .before .pre .1 .1 .0)
 
-close-nil-requires : tie.Need-close-nil-requires
-close-nil-requires c κs = search needs
+put-nil-array-requires : tie.Need-put-nil-array-requires
+put-nil-array-requires c κs = search needs
+
+close-requires-2 : tie.Need-close-requires-2
+close-requires-2 c κs = search needs
 
 same-length-3 : tie.Need-same-length-3
 same-length-3 c = search needs
@@ -45,10 +45,10 @@ same-length-6 : tie.Need-same-length-6
 same-length-6 c = search needs
 
 returns-2 : tie.Need-returns-2
-returns-2 c = exec-watched _ _ _ _ _ _ _ (c .before .before .before .before .before .before .before .before .before .before .before .before .before .before .before .before .before .before .before .before .before .before .before .pre .0) (c .before .before .before .before .before .before .before .before .before .before .before .before .before .before .before .before .before .before .before .before .before .before .before .pre .1 .0) (c .before .before .before .before .before .before .before .before .before .before .before .before .before .before .before .before .before .before .before .before .before .before .before .pre .1 .1 .0) (c .before .before .before .before .before .before .before .before .before .before .before .before .before .before .before .before .before .before .before .before .before .before .before .pre .1 .1 .1) (c .before .before .before .before .before .before .before .before .before .before .before .before .before .before .before .before .failed .ensures) (c .before .before .before .before .before .before .before .before .before .before .before .before .before .before .before .if1 .left) (c .before .before .before .before .before .before .before .before .before .before .before .before .read-sequence .ensures) (c .before .before .before .before .before .before .before .before .watched-moved .ensures) (c .before .before .before .before .before .before .before .if2 .taken) (c .before .before .before .before .close-nil .ensures)
+returns-2 c = exec-watched _ _ _ _ _ _ _ (c .before .before .before .before .before .before .before .before .before .before .before .before .before .before .before .before .before .before .before .before .before .pre .0) (c .before .before .before .before .before .before .before .before .before .before .before .before .before .before .before .before .before .before .before .before .before .pre .1 .0) (c .before .before .before .before .before .before .before .before .before .before .before .before .before .before .before .before .before .before .before .before .before .pre .1 .1 .0) (c .before .before .before .before .before .before .before .before .before .before .before .before .before .before .before .before .before .before .before .before .before .pre .1 .1 .1) (c .before .before .before .before .before .before .before .before .before .before .before .before .before .before .failed .ensures) (c .before .before .before .before .before .before .before .before .before .before .before .before .before .if1 .left) (c .before .before .before .before .before .before .before .before .before .watched-moved .ensures) (c .before .before .before .before .before .before .before .before .if2 .taken) (c .before .before .before .before .before .before .put-nil-array .ensures) (c .before .before .close2 .ensures)
 
 exec-queue-requires : tie.Need-exec-queue-requires
-exec-queue-requires c κs = exec-ready _ _ _ _ _ _ (c .before .before .before .before .before .before .before .before .before .before .before .before .before .before .before .before .before .before .before .before .pre .0) (c .before .before .before .before .before .before .before .before .before .before .before .before .before .before .before .before .before .before .before .before .pre .1 .0) (c .before .before .before .before .before .before .before .before .before .before .before .before .before .before .before .before .before .before .before .before .pre .1 .1 .0) (c .before .before .before .before .before .before .before .before .before .before .before .before .before .before .before .before .before .before .before .before .pre .1 .1 .1) (c .before .before .before .before .before .before .before .before .before .before .before .before .before .failed .ensures) (c .before .before .before .before .before .before .before .before .before .before .before .before .if1 .left) (c .before .before .before .before .before .before .before .before .before .read-sequence .ensures) (c .before .before .before .before .before .watched-moved .ensures) (c .before .before .before .before .if2 .left)
+exec-queue-requires c κs = exec-ready _ _ _ _ _ _ (c .before .before .before .before .before .before .before .before .before .before .before .before .before .before .before .before .before .pre .0) (c .before .before .before .before .before .before .before .before .before .before .before .before .before .before .before .before .before .pre .1 .0) (c .before .before .before .before .before .before .before .before .before .before .before .before .before .before .before .before .before .pre .1 .1 .0) (c .before .before .before .before .before .before .before .before .before .before .before .before .before .before .before .before .before .pre .1 .1 .1) (c .before .before .before .before .before .before .before .before .before .before .failed .ensures) (c .before .before .before .before .before .before .before .before .before .if1 .left) (c .before .before .before .before .before .watched-moved .ensures) (c .before .before .before .before .if2 .left)
 
 same-length-7 : tie.Need-same-length-7
 same-length-7 c = search needs
@@ -75,9 +75,9 @@ exec-spec =
     same-length
     same-length-2
     returns
-    read-sequence-requires
     watched-moved-requires
-    close-nil-requires
+    put-nil-array-requires
+    close-requires-2
     same-length-3
     same-length-4
     same-length-5

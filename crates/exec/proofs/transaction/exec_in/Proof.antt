@@ -5,20 +5,23 @@ use borrow.Author.Needs.{needs}
 use Rattle.exec.proofs.transaction.exec_in.Statement.{statement}
 use Rattle.exec.proofs.transaction.exec_in.Tie as tie
 
+slice-read-seq : tie.Need-slice-read-seq
+slice-read-seq c = search needs
+
 lay-out-requires : tie.Need-lay-out-requires
 lay-out-requires c κs = search needs
 
 run-queue-requires : tie.Need-run-queue-requires
-run-queue-requires c κs = (c .before .before .before .before .before .before .before .before .before .before .before .lay-out .ensures .queued, (c .before .before .before .before .before .before .before .before .before .before .before .before .before .before .before .before .before .before .before .before .before .before .before .pre .0 .valid, (c .before .before .before .before .before .before .before .before .before .before .before .before .before .before .before .before .before .before .before .before .before .before .before .pre .1 .1 .0, c .before .before .before .before .before .before .before .before .before .before .before .lay-out .ensures .room)))
+run-queue-requires c κs = (c .before .before .before .before .before .before .before .before .before .before .before .lay-out .ensures .queued, (c .before .before .before .before .before .before .before .before .before .before .before .before .before .before .before .before .before .before .before .before .before .before .before .before .pre .0 .valid, (c .before .before .before .before .before .before .before .before .before .before .before .before .before .before .before .before .before .before .before .before .before .before .before .before .pre .1 .1 .0, c .before .before .before .before .before .before .before .before .before .before .before .lay-out .ensures .room)))
 
 slice-reshare-prefix-conclude : tie.Need-slice-reshare-prefix-conclude
 slice-reshare-prefix-conclude c = search needs
 
 slice-aggregate-conclude : tie.Need-slice-aggregate-conclude
-slice-aggregate-conclude c = own-lent _ _ _ _ _ 0 _ (c .before .before .before .before .before .before .before .before .before .before .before .before .before .before .before .before .before .before .before .before .before .before .before .before .before .before .before .before .before .before .before .before .before .pre .0) (c .before .before .before .before .before .before .before .before .before .before .before .before .before .before .before .before .before .before .before .before .before .lay-out .ensures) (c .before .before .before .before .before .before .before .before .before .run-queue .ensures)
+slice-aggregate-conclude c = own-lent _ _ _ _ 0 _ (c .before .before .before .before .before .before .before .before .before .before .before .before .before .before .before .before .before .before .before .before .before .before .before .before .before .before .before .before .before .before .before .before .before .before .pre .0) (c .before .before .before .before .before .before .before .before .before .before .before .before .before .before .before .before .before .before .before .before .before .lay-out .ensures) (c .before .before .before .before .before .before .before .before .before .run-queue .ensures)
 
 conclude-requires : tie.Need-conclude-requires
-conclude-requires c κs = (c .before .before .before .before .before .before .before .before .before .before .before .before .before .before .before .before .before .before .before .before .before .before .before .before .before .before .before .before .before .before .before .before .before .before .before .before .pre .0 .held .words, (c .before .before .before .before .before .before .before .before .before .before .before .before .run-queue .ensures .kept, c .before .before .before .before .before .before .before .before .before .before .before .before .before .before .before .before .before .before .before .before .before .before .before .before .before .before .before .before .before .before .before .before .before .before .before .before .pre .0 .valid))
+conclude-requires c κs = (c .before .before .before .before .before .before .before .before .before .before .before .before .before .before .before .before .before .before .before .before .before .before .before .before .before .before .before .before .before .before .before .before .before .before .before .before .before .pre .0 .held .words, (c .before .before .before .before .before .before .before .before .before .before .before .before .run-queue .ensures .kept, c .before .before .before .before .before .before .before .before .before .before .before .before .before .before .before .before .before .before .before .before .before .before .before .before .before .before .before .before .before .before .before .before .before .before .before .before .before .pre .0 .valid))
 
 same-length : tie.Need-same-length
 same-length c = search needs
@@ -42,12 +45,13 @@ same-length-7 : tie.Need-same-length-7
 same-length-7 c = omega (arith, c .before .before .before .before .before .before .before .before .before .before .before .before .before .before .before .before .before .before .data2 .given, c .before .before .before .before .before .before .before .before .before .before .before .before .before .before .before .before .before .before .before .before .before .before .before .before .before .before .before .before .before .before .«data» .given)
 
 returns : tie.Need-returns
-returns c = exec-concluded _ _ _ _ _ _ _ (c .before .before .before .before .before .before .before .before .before .before .before .before .before .before .before .before .before .before .before .before .before .before .before .before .before .before .before .before .before .before .before .before .before .before .before .before .before .before .before .before .before .before .before .before .before .pre .0) (c .before .before .before .before .before .before .before .before .before .before .before .before .before .before .before .before .before .before .before .before .before .before .before .before .before .before .before .before .before .before .before .before .before .lay-out .ensures) (c .before .before .before .before .before .before .before .before .before .before .before .before .before .before .before .before .before .before .before .before .before .run-queue .ensures) (c .before .before .before .before .before .before .before .before .conclude .ensures)
+returns c = exec-concluded _ _ _ _ _ _ (c .before .before .before .before .before .before .before .before .before .before .before .before .before .before .before .before .before .before .before .before .before .before .before .before .before .before .before .before .before .before .before .before .before .before .before .before .before .before .before .before .before .before .before .before .before .before .pre .0) (c .before .before .before .before .before .before .before .before .before .before .before .before .before .before .before .before .before .before .before .before .before .before .before .before .before .before .before .before .before .before .before .before .before .lay-out .ensures) (c .before .before .before .before .before .before .before .before .before .before .before .before .before .before .before .before .before .before .before .before .before .run-queue .ensures) (c .before .before .before .before .before .before .before .before .conclude .ensures)
 
 pub exec-in-spec : {M : Type 1} → statement M
 exec-in-spec =
     tie.close
     (tie.spec
+    slice-read-seq
     lay-out-requires
     run-queue-requires
     slice-reshare-prefix-conclude

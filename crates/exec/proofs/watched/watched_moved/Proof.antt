@@ -2,17 +2,16 @@
 use Rattle.exec.proofs.WatchedKeys.{Passing, passing-none, passing-room, passing-more, passing-found, passed-all}
 use native.Mathlib.Omega.{arith}
 use Rattle.memtable.specs.Rows.{versionsIn}
-use Rattle.memtable.specs.Versions.{moved}
 use Prim.Native.Nat.{_-_}
 use borrow.Author.Needs.{needs}
 use Rattle.exec.proofs.watched.watched_moved.Statement.{statement}
 use Rattle.exec.proofs.watched.watched_moved.Tie as tie
 
 abbrev Inv-loop : tie.InvT-loop
-Inv-loop session-words session-bytes words bytes seq count start₀ i₀ start i = Passing (moved seq (versionsIn words bytes)) session-words session-bytes count start i
+Inv-loop session-words session-bytes words bytes count start₀ i₀ start i = Passing (versionsIn words bytes) session-words session-bytes count start i
 
 abbrev μ-loop : tie.MeasureT-loop
-μ-loop session-words session-bytes words bytes seq count start₀ i₀ start i = count - i
+μ-loop session-words session-bytes words bytes count start₀ i₀ start i = count - i
 
 word-requires : tie.Need-word-requires Inv-loop μ-loop
 word-requires c κs = search needs
@@ -29,6 +28,15 @@ word-requires-2 c κs = search needs
 add-end : tie.Need-add-end Inv-loop μ-loop
 add-end c = omega (arith, passing-room (c .before .before .loop .inv) (c .before .before .before .before .before .before .before .before .pre .0) (c .before .loop-test .taken))
 
+add-seq : tie.Need-add-seq Inv-loop μ-loop
+add-seq c = search needs
+
+mul-seq : tie.Need-mul-seq Inv-loop μ-loop
+mul-seq c = search needs
+
+shared-slice-read-seq : tie.Need-shared-slice-read-seq Inv-loop μ-loop
+shared-slice-read-seq c = search needs
+
 sub-moved : tie.Need-sub-moved Inv-loop μ-loop
 sub-moved c = search needs
 
@@ -36,7 +44,7 @@ part-moved-start : tie.Need-part-moved-start Inv-loop μ-loop
 part-moved-start c = search needs
 
 part-moved-end : tie.Need-part-moved-end Inv-loop μ-loop
-part-moved-end c = omega (arith, passing-room (c .before .before .loop .inv) (c .before .before .before .before .before .before .before .before .pre .0) (c .before .loop-test .taken))
+part-moved-end c = omega (arith, passing-room (c .before .before .before .loop .inv) (c .before .before .before .before .before .before .before .before .before .pre .0) (c .before .before .loop-test .taken))
 
 moved-requires : tie.Need-moved-requires Inv-loop μ-loop
 moved-requires c κs = search needs
@@ -67,6 +75,9 @@ watched-moved-spec =
     add-word
     word-requires-2
     add-end
+    add-seq
+    mul-seq
+    shared-slice-read-seq
     sub-moved
     part-moved-start
     part-moved-end

@@ -6,18 +6,6 @@ use borrow.Author.Needs.{needs}
 use Rattle.inside.proofs.counters.run_counter.Statement.{statement}
 use Rattle.inside.proofs.counters.run_counter.Tie as tie
 
-slice-reshare-prefix-counter-moved : tie.Need-slice-reshare-prefix-counter-moved
-slice-reshare-prefix-counter-moved c = search needs
-
-slice-aggregate-counter-moved : tie.Need-slice-aggregate-counter-moved
-slice-aggregate-counter-moved c = search lent-used
-
-counter-moved-requires : tie.Need-counter-moved-requires
-counter-moved-requires c κs = search needs
-
-either-requires : tie.Need-either-requires
-either-requires c κs = search needs
-
 slice-reshare-prefix-counter-number : tie.Need-slice-reshare-prefix-counter-number
 slice-reshare-prefix-counter-number c = search needs
 
@@ -46,7 +34,7 @@ same-length-3 : tie.Need-same-length-3
 same-length-3 c = search needs
 
 returns : tie.Need-returns
-returns c = counter-bad _ _ _ _ _ _ _ (c .before .before .before .before .before .before .before .before .before .before .before .before .before .before .before .before .before .before .args .at) (c .before .before .before .before .before .before .before .before .before .before .before .before .before .before .before .before .before .before .pre .0) (c .before .before .before .before .before .before .before .before .before .before .before .before .before .before .before .before .before .before .pre .1 .1 .0) (c .before .before .before .before .before .before .before .before .before .before .before .before .before .before .before .before .before .before .pre .1 .1 .1 .0) (c .before .before .before .before .before .before .before .before .before .before .counter-moved .ensures) (c .before .before .before .before .before .before .before .before .before .either .ensures) (c .before .before .before .before .before .before .counter-number .ensures) (c .before .before .before .before .enum-told .given .1) (c .before .before .answer-error .ensures)
+returns c = counter-bad _ _ _ _ _ _ _ (c .before .before .before .before .before .before .before .before .before .before .before .before .before .before .before .args .at) (c .before .before .before .before .before .before .before .before .before .before .before .before .before .before .before .pre .0) (c .before .before .before .before .before .before .before .before .before .before .before .before .before .before .before .pre .1 .1 .0) (c .before .before .before .before .before .before .before .before .before .before .before .before .before .before .before .pre .1 .1 .1 .0) (c .before .before .before .before .before .before .counter-number .ensures) (c .before .before .before .before .enum-told .given .1) (c .before .before .answer-error .ensures)
 
 checked-sum-requires : tie.Need-checked-sum-requires
 checked-sum-requires c κs = search needs
@@ -70,10 +58,10 @@ same-length-6 : tie.Need-same-length-6
 same-length-6 c = search needs
 
 returns-2 : tie.Need-returns-2
-returns-2 c = counter-over _ _ _ _ _ _ _ (c .before .before .before .before .before .before .before .before .before .before .before .before .before .before .before .before .before .before .before .before .before .before .args .at) (c .before .before .before .before .before .before .before .before .before .before .before .before .before .before .before .before .before .before .before .before .before .before .pre .0) (c .before .before .before .before .before .before .before .before .before .before .before .before .before .before .before .before .before .before .before .before .before .before .pre .1 .1 .0) (c .before .before .before .before .before .before .before .before .before .before .before .before .before .before .before .before .before .before .before .before .before .before .pre .1 .1 .1 .0) (c .before .before .before .before .before .before .before .before .before .before .before .before .before .before .counter-moved .ensures) (c .before .before .before .before .before .before .before .before .before .before .before .before .before .either .ensures) (c .before .before .before .before .before .before .before .before .before .before .counter-number .ensures) (c .before .before .before .before .before .before .before .before .held .given .1) (toZ-ofZ (record { sfits = c .before .before .before .before .before .before .before .known-told .given .0 .1 })) (toZ-ofZ (c .before .before .before .before .before .before .before .before .before .before .before .before .before .before .before .before .before .before .before .before .before .before .fits .by)) (c .before .before .before .before .before .before .checked-sum .ensures) (c .before .before .before .before .enum-told2 .given .1) (c .before .before .answer-error2 .ensures)
+returns-2 c = counter-over _ _ _ _ _ _ _ (c .before .before .before .before .before .before .before .before .before .before .before .before .before .before .before .before .before .before .before .args .at) (c .before .before .before .before .before .before .before .before .before .before .before .before .before .before .before .before .before .before .before .pre .0) (c .before .before .before .before .before .before .before .before .before .before .before .before .before .before .before .before .before .before .before .pre .1 .1 .0) (c .before .before .before .before .before .before .before .before .before .before .before .before .before .before .before .before .before .before .before .pre .1 .1 .1 .0) (c .before .before .before .before .before .before .before .before .before .before .counter-number .ensures) (c .before .before .before .before .before .before .before .before .held .given .1) (toZ-ofZ (record { sfits = c .before .before .before .before .before .before .before .known-told .given .0 .1 })) (toZ-ofZ (c .before .before .before .before .before .before .before .before .before .before .before .before .before .before .before .before .before .before .before .fits .by)) (c .before .before .before .before .before .before .checked-sum .ensures) (c .before .before .before .before .enum-told2 .given .1) (c .before .before .answer-error2 .ensures)
 
 set-counter-requires : tie.Need-set-counter-requires
-set-counter-requires c κs = (c .before .before .before .before .before .before .before .before .before .before .before .before .before .before .before .before .before .before .before .before .before .before .pre .0, (counter-place (c .before .before .before .before .before .before .before .before .before .before .before .before .before .before .before .before .before .before .before .before .before .before .pre .1 .1 .0) (c .before .before .before .before .before .before .before .before .before .before .before .before .before .before .before .before .before .before .before .before .before .before .pre .1 .1 .1 .0), (omega (arith, c .before .before .before .before .before .before .before .before .before .before .before .before .before .before .before .before .before .before .before .before .before .before .pre .1 .1 .1 .0, c .before .before .before .before .before .before .before .before .before .before .before .before .before .before .before .before .before .before .before .before .before .before .pre .1 .1 .1 .1 .0), c .before .before .before .before .before .before .before .before .before .before .before .before .before .before .before .before .before .before .before .before .before .before .pre .1 .1 .1 .1 .1)))
+set-counter-requires c κs = (c .before .before .before .before .before .before .before .before .before .before .before .before .before .before .before .before .before .before .before .pre .0, (counter-place (c .before .before .before .before .before .before .before .before .before .before .before .before .before .before .before .before .before .before .before .pre .1 .1 .0) (c .before .before .before .before .before .before .before .before .before .before .before .before .before .before .before .before .before .before .before .pre .1 .1 .1 .0), (omega (arith, c .before .before .before .before .before .before .before .before .before .before .before .before .before .before .before .before .before .before .before .pre .1 .1 .1 .0, c .before .before .before .before .before .before .before .before .before .before .before .before .before .before .before .before .before .before .before .pre .1 .1 .1 .1 .0), c .before .before .before .before .before .before .before .before .before .before .before .before .before .before .before .before .before .before .before .pre .1 .1 .1 .1 .1)))
 
 same-length-7 : tie.Need-same-length-7
 same-length-7 c = search needs
@@ -85,16 +73,12 @@ same-length-9 : tie.Need-same-length-9
 same-length-9 c = search needs
 
 returns-3 : tie.Need-returns-3
-returns-3 c = counter-raised _ _ _ _ _ _ _ (c .before .before .before .before .before .before .before .before .before .before .before .before .before .before .before .before .before .before .before .before .before .before .before .before .before .before .before .before .before .args .at) (c .before .before .before .before .before .before .before .before .before .before .before .before .before .before .before .before .before .before .before .before .before .before .before .before .before .before .before .before .before .pre .0) (c .before .before .before .before .before .before .before .before .before .before .before .before .before .before .before .before .before .before .before .before .before .before .before .before .before .before .before .before .before .pre .1 .1 .0) (c .before .before .before .before .before .before .before .before .before .before .before .before .before .before .before .before .before .before .before .before .before .before .before .before .before .before .before .before .before .pre .1 .1 .1 .0) (c .before .before .before .before .before .before .before .before .before .before .before .before .before .before .before .before .before .before .before .before .before .counter-moved .ensures) (c .before .before .before .before .before .before .before .before .before .before .before .before .before .before .before .before .before .before .before .before .either .ensures) (c .before .before .before .before .before .before .before .before .before .before .before .before .before .before .before .before .before .counter-number .ensures) (c .before .before .before .before .before .before .before .before .before .before .before .before .before .before .before .held .given .1) (toZ-ofZ (record { sfits = c .before .before .before .before .before .before .before .before .before .before .before .before .before .before .known-told .given .0 .1 })) (toZ-ofZ (c .before .before .before .before .before .before .before .before .before .before .before .before .before .before .before .before .before .before .before .before .before .before .before .before .before .before .before .before .before .fits .by)) (c .before .before .before .before .before .before .before .before .before .before .before .before .before .checked-sum .ensures) (c .before .before .before .before .before .before .before .before .before .before .before .sum .given .1) (toZ-ofZ (record { sfits = c .before .before .before .before .before .before .before .before .before .before .known-told2 .given .0 .1 })) (c .before .before .before .before .before .before .set-counter .ensures)
+returns-3 c = counter-raised _ _ _ _ _ _ _ (c .before .before .before .before .before .before .before .before .before .before .before .before .before .before .before .before .before .before .before .before .before .before .before .before .before .before .args .at) (c .before .before .before .before .before .before .before .before .before .before .before .before .before .before .before .before .before .before .before .before .before .before .before .before .before .before .pre .0) (c .before .before .before .before .before .before .before .before .before .before .before .before .before .before .before .before .before .before .before .before .before .before .before .before .before .before .pre .1 .1 .0) (c .before .before .before .before .before .before .before .before .before .before .before .before .before .before .before .before .before .before .before .before .before .before .before .before .before .before .pre .1 .1 .1 .0) (c .before .before .before .before .before .before .before .before .before .before .before .before .before .before .before .before .before .counter-number .ensures) (c .before .before .before .before .before .before .before .before .before .before .before .before .before .before .before .held .given .1) (toZ-ofZ (record { sfits = c .before .before .before .before .before .before .before .before .before .before .before .before .before .before .known-told .given .0 .1 })) (toZ-ofZ (c .before .before .before .before .before .before .before .before .before .before .before .before .before .before .before .before .before .before .before .before .before .before .before .before .before .before .fits .by)) (c .before .before .before .before .before .before .before .before .before .before .before .before .before .checked-sum .ensures) (c .before .before .before .before .before .before .before .before .before .before .before .sum .given .1) (toZ-ofZ (record { sfits = c .before .before .before .before .before .before .before .before .before .before .known-told2 .given .0 .1 })) (c .before .before .before .before .before .before .set-counter .ensures)
 
 pub run-counter-spec : {M : Type 1} → statement M
 run-counter-spec =
     tie.close
     (tie.spec
-    slice-reshare-prefix-counter-moved
-    slice-aggregate-counter-moved
-    counter-moved-requires
-    either-requires
     slice-reshare-prefix-counter-number
     slice-aggregate-counter-number
     counter-number-requires

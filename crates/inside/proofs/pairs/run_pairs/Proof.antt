@@ -10,12 +10,6 @@ then-fixed-requires c κs = search needs
 put-pairs-requires : tie.Need-put-pairs-requires
 put-pairs-requires c κs = (search needs, (search needs, (search pairs-least, search pairs-room)))
 
-pairs-moved-requires : tie.Need-pairs-moved-requires
-pairs-moved-requires c κs = (search needs, (search pairs-least, search needs))
-
-either-requires : tie.Need-either-requires
-either-requires c κs = search needs
-
 same-length : tie.Need-same-length
 same-length c = search needs
 
@@ -31,8 +25,6 @@ run-pairs-spec =
     (tie.spec
     then-fixed-requires
     put-pairs-requires
-    pairs-moved-requires
-    either-requires
     same-length
     same-length-2
     returns)

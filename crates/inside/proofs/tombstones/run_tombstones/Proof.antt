@@ -11,12 +11,6 @@ then-live-requires c κs = (search needs, (search needs, (search needs, search n
 put-tombstones-requires : tie.Need-put-tombstones-requires
 put-tombstones-requires c κs = search needs
 
-keys-moved-requires : tie.Need-keys-moved-requires
-keys-moved-requires c κs = search needs
-
-either-requires : tie.Need-either-requires
-either-requires c κs = search needs
-
 same-length : tie.Need-same-length
 same-length c = search needs
 
@@ -24,7 +18,7 @@ same-length-2 : tie.Need-same-length-2
 same-length-2 c = search needs
 
 returns : tie.Need-returns
-returns c = tombstones-ran _ _ _ _ _ _ (omega (arith, c .before .before .before .before .before .before .before .before .before .before .before .before .before .before .before .before .before .pre)) (c .before .before .before .before .before .before .before .before .then-live .ensures) (c .before .before .before .before .put-tombstones .ensures) (c .before .keys-moved .ensures) (c .either .ensures)
+returns c = tombstones-ran _ _ _ _ _ _ (omega (arith, c .before .before .before .before .before .before .before .before .before .before .before .before .before .before .before .pre)) (c .before .before .before .before .before .before .then-live .ensures) (c .before .before .put-tombstones .ensures)
 
 pub run-tombstones-spec : {M : Type 1} → statement M
 run-tombstones-spec =
@@ -32,8 +26,6 @@ run-tombstones-spec =
     (tie.spec
     then-live-requires
     put-tombstones-requires
-    keys-moved-requires
-    either-requires
     same-length
     same-length-2
     returns)

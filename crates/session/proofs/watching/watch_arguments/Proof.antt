@@ -14,8 +14,11 @@ slice-aggregate-grow c = search needs
 slice-aggregate-grow-2 : tie.Need-slice-aggregate-grow-2
 slice-aggregate-grow-2 c = search needs
 
+slice-aggregate-grow-3 : tie.Need-slice-aggregate-grow-3
+slice-aggregate-grow-3 c = search needs
+
 grow-requires : tie.Need-grow-requires
-grow-requires c κs = search needs
+grow-requires c κs = (c .before .before .before .before .before .before .before .before .before .before .pre .0, (c .before .before .before .before .before .before .before .before .before .before .pre .1 .0, (c .before .before .before .before .before .before .before .before .before .before .pre .1 .1 .0, search needs, search needs, search needs)))
 
 enum-told : tie.Need-enum-told
 enum-told c = search needs
@@ -33,7 +36,7 @@ returns : tie.Need-returns
 returns c = search watch-refused
 
 -- the keys and the bytes that working memory holds
-told-here : (c : tie.After-known-told) → c .before .before .before .before .before .grow .result ≡ grown.To (c .before .grown .given .0 .0) (c .before .grown .given .0 .1 .0)
+told-here : (c : tie.After-known-told) → c .before .before .before .before .before .before .grow .result ≡ grown.To (c .before .grown .given .0 .0) (c .before .grown .given .0 .1 .0)
 told-here c = search needs
 
 enum-known-grown : tie.Need-enum-known-grown
@@ -45,8 +48,11 @@ slice-aggregate-keep-watch c = search needs
 slice-aggregate-keep-watch-2 : tie.Need-slice-aggregate-keep-watch-2
 slice-aggregate-keep-watch-2 c = search needs
 
+slice-aggregate-keep-watch-3 : tie.Need-slice-aggregate-keep-watch-3
+slice-aggregate-keep-watch-3 c = search needs
+
 keep-watch-requires : tie.Need-keep-watch-requires
-keep-watch-requires c κs = (search needs, ((search needs, search needs), search needs))
+keep-watch-requires c κs = (search needs, ((search needs, search needs, search needs), search needs))
 
 same-length-3 : tie.Need-same-length-3
 same-length-3 c = search needs
@@ -59,10 +65,10 @@ same-length-5 c = search needs
 
 returns-2 : tie.Need-returns-2
 returns-2 c =
-    let start = c .before .before .before .before .before .before .before .before .before .before .before .before .before .before .before .before .before .before .before .before .before .before .before .before .before .before .before in
-    let grew = c .before .before .before .before .before .before .before .before .before .before .before .before .before .before .before .before .before .grow in
-    watch-kept (start .pre .0) (argumentsAt 1 (start .args .count - 1) (start .args .places .now) (start .args .input .now)) (start .args .last) (start .pre .1 .1 .1) (grew .last .1 .1 .0) (grew .last .1 .1 .1 .0)
-    (grew .ensures) (told-here (c .before .before .before .before .before .before .before .before .before .before .before .before)) (c .before .before .before .before .before .before .keep-watch .ensures)
+    let start = c .before .before .before .before .before .before .before .before .before .before .before .before .before .before .before .before .before .before .before .before .before .before .before .before .before .before .before .before .before .before in
+    let grew = c .before .before .before .before .before .before .before .before .before .before .before .before .before .before .before .before .before .before .before .grow in
+    watch-kept (start .pre .0) (argumentsAt 1 (start .args .count - 1) (start .args .places .now) (start .args .input .now)) (start .args .last) (start .pre .1 .1 .1) (grew .last .1 .1 .0) (grew .last .1 .1 .1 .0) (grew .last .1 .1 .1 .1 .0)
+    (grew .ensures) (told-here (c .before .before .before .before .before .before .before .before .before .before .before .before .before)) (c .before .before .before .before .before .before .keep-watch .ensures)
 
 pub watch-arguments-spec : {M : Type 1} → statement M
 watch-arguments-spec =
@@ -70,6 +76,7 @@ watch-arguments-spec =
     (tie.spec
     slice-aggregate-grow
     slice-aggregate-grow-2
+    slice-aggregate-grow-3
     grow-requires
     enum-told
     refusal-requires
@@ -79,6 +86,7 @@ watch-arguments-spec =
     enum-known-grown
     slice-aggregate-keep-watch
     slice-aggregate-keep-watch-2
+    slice-aggregate-keep-watch-3
     keep-watch-requires
     same-length-3
     same-length-4
