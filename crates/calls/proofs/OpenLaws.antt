@@ -37,19 +37,19 @@ take-zeros (suc m) (suc n) h = ap {B = List ℕ} (λ l. 0 ∷ l) (take-zeros m n
 part-zeros : (start size n : ℕ) → start + size ≤ n → part start size (zeros n) ≡ zeros size
 part-zeros start size n h = ap (take size) (drop-zeros start n) ∙ take-zeros size (n - start) (omega arith)
 
--- words that begin with five zeros are a clear session
-zero-clear : (w : List ℕ) (b : Bytes) → sessionFrom (0 ∷ 0 ∷ 0 ∷ 0 ∷ 0 ∷ w) b ≡ clear
+-- words that begin with four zeros are a clear session
+zero-clear : (w : List ℕ) (b : Bytes) → sessionFrom (0 ∷ 0 ∷ 0 ∷ 0 ∷ w) b ≡ clear
 unfolding sessionFrom paired keysIn splitBy
 zero-clear w b = refl
 
-zero-ok : (last : ℕ) (w : List ℕ) (b : Bytes) → sessionOk last (0 ∷ 0 ∷ 0 ∷ 0 ∷ 0 ∷ w) b ≡ true
+zero-ok : (last : ℕ) (w : List ℕ) (b : Bytes) → sessionOk last (0 ∷ 0 ∷ 0 ∷ 0 ∷ w) b ≡ true
 unfolding sessionOk watchOk queueOk keysIn queueIn splitBy total noneAbove allPositive allQueueable _and_
 zero-ok last w b = refl
 
-module _ (n m : ℕ) (words : 10320 ≤ n) (bytes : 163840 ≤ m) where
-  own-words : (i : ℕ) → i < 16 → wordsOfSession i (zeros n) ≡ 0 ∷ 0 ∷ 0 ∷ 0 ∷ 0 ∷ zeros 640
+module _ (n m : ℕ) (words : 10304 ≤ n) (bytes : 163840 ≤ m) where
+  own-words : (i : ℕ) → i < 16 → wordsOfSession i (zeros n) ≡ 0 ∷ 0 ∷ 0 ∷ 0 ∷ zeros 640
   unfolding wordsOfSession
-  own-words i h = part-zeros (i * 645) 645 n (omega arith)
+  own-words i h = part-zeros (i * 644) 644 n (omega arith)
 
   zeros-clear : (i : ℕ) → i < 16 → sessionAt i (zeros n) (zeros m) ≡ clear
   unfolding sessionAt

@@ -15,7 +15,7 @@ use Rattle.memtable.proofs.VersionLaws.{Sound, later-refl}
 use Rattle.batch.proofs.GroupLaws.{After}
 use Rattle.server.specs.Names.{Args, rowOf, nameWord, controlOf}
 use Rattle.server.specs.Session.{Session, clear, Result, number, reply, Done, says, respond}
-use Rattle.server.proofs.SessionLaws.{SessionSound, clear-sound, Refuses, Renewed, renewed-same, renewed-none, Kept, says-kept, respond-kept}
+use Rattle.server.proofs.SessionLaws.{SessionSound, clear-sound, Refuses, WatchKept, watch-same, watch-none, Kept, says-kept, respond-kept}
 use Rattle.server.specs.Finish.{Served, silent, fitted, finishBy, finish}
 use Rattle.calls.specs.Serve.{protocolError, serveReading, serve}
 use Rattle.calls.specs.Posting.{Asked, nothing, broken, asks, askedBy, Client, closed, turnAsked}
@@ -24,7 +24,7 @@ use Rattle.calls.proofs.FollowLaws.{Mirrors, closed-clear, Follows, sti
 pub record ServeKept (st : Store) (s : Session) (v : Served) : Type 0 where
   pub store : After st (v .store)
   pub session : SessionSound (v .store .last) (v .session)
-  pub watch : Renewed st (s .watch) (v .session .watch)
+  pub watch : WatchKept st (s .watch) (v .session .watch)
   pub small : v .number ≤ 7
   pub numbers : (v .number ≡ 0 → ⊥) → (v .store ≡ st) × ((v .number ≡ 4) ⊎ (v .session ≡ s)) × (v .session .queue ≡ s .queue) × (v .session .watch ≡ s .watch)
 
@@ -37,7 +37,7 @@ usedBy input (whole ps used) = used
 
 module _ (st : Store) (s : Session) (sound : Sound st) (good : SessionSound (st .last) s) where
   silent-kept : (n used : ℕ) → n ≤ 7 → ServeKept st s (silent n used st s)
-  silent-kept n used k = record { store = record { sound = sound; later = later-refl st }; session = good; watch = renewed-same st s good; small = k; numbers = λ h. (refl, inr refl, refl, refl) }
+  silent-kept n used k = record { store = record { sound = sound; later = later-refl st }; session = good; watch = watch-same st s good; small = k; numbers = λ h. (refl, inr refl, refl, refl) }
 
   finish-kept : (room used : ℕ) (d : Done) → Kept st s d → ServeKept st s (finish room used d st s)
   unfolding finish
@@ -55,7 +55,7 @@ module _ (st : Store) (s : Session) (sound : Sound st) (good : SessionSound (st 
   unfolding serveReading
   reading-kept room input waits = silent-kept 0 0 (omega arith)
   reading-kept room input tooMany = silent-kept 2 0 (omega arith)
-  reading-kept room input (faulty f) = finish-kept room _ _ (says-kept st s sound good _ clear (clear-sound (st .last)) (renewed-none st (s .watch)))
+  reading-kept room input (faulty f) = finish-kept room _ _ (says-kept st s sound good _ clear (clear-sound (st .last)) (watch-none st (s .watch)))
   reading-kept room input (whole [] used) = silent-kept 0 used (omega arith)
   reading-kept room input (whole (p ∷ ps) used) = finish-kept room used _ (respond-kept st s sound good (spanned input p) (map (spanned input) ps))
 
@@ -81,7 +81,7 @@ module _ (st : Store) (s : Session) (sound : Sound st) (good : SessionSound (st 
   unfolding serveReading
   reading-used room input waits e = refl
   reading-used room input tooMany e = absurd (omega arith)
-  reading-used room input (faulty f) e = finish-used room (length input) _ (says-kept st s sound good _ clear (clear-sound (st .last)) (renewed-none st (s .watch))) e
+  reading-used room input (faulty f) e = finish-used room (length input) _ (says-kept st s sound good _ clear (clear-sound (st .last)) (watch-none st (s .watch))) e
   reading-used room input (whole [] used) e = refl
   reading-used room input (whole (p ∷ ps) used) e = finish-used room used _ (respond-kept st s sound good (spanned input p) (map (spanned input) ps)) e
 
@@ -123,7 +123,7 @@ module _ (st : Store) (s : Session) (sound : Sound st) (good : SessionSound (st 
     reading-follows room input waits = nothing-follows 0 0
     reading-follows room input tooMany = nothing-follows 2 0
     reading-follows room input (faulty f) =
-        finish-follows broken room (length input) (says (protocolError input f) st clear) (says-kept st s sound good _ clear (clear-sound (st .last)) (renewed-none st (s .watch)))
+        finish-follows broken room (length input) (says (protocolError input f) st clear) (says-kept st s sound good _ clear (clear-sound (st .last)) (watch-none st (s .watch)))
         (λ r e. unfold turnAsked in still st clear closed closed-clear)
     reading-follows room input (whole [] used) = nothing-follows 0 used
     reading-follows room input (whole (p ∷ ps) used) =

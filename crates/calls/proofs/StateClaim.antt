@@ -88,8 +88,8 @@ pub record StateDemand3 (cs : List Call) (st : State) : Type 0 where
 
 pub state-claim : (cs : List Call) (last versions size : ℕ) → StateDemand3 cs (openState last versions size)
 state-claim cs last versions size =
-    let o = opens 10320 163840 (omega arith) (omega arith) last versions size (zeros (5 + 4 * versions)) (zeros size) room in
-    let e = opened-store 10320 163840 (omega arith) (omega arith) last versions size (zeros (5 + 4 * versions)) (zeros size) room in
+    let o = opens 10304 163840 (omega arith) (omega arith) last versions size (zeros (5 + 4 * versions)) (zeros size) room in
+    let e = opened-store 10304 163840 (omega arith) (omega arith) last versions size (zeros (5 + 4 * versions)) (zeros size) room in
     let same = list-same cs _ (openState last versions size) (o .fit) (holds-opened _ last versions size e (o .sessions)) in
     let d = claim cs _ o in
     record {

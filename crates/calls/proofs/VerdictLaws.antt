@@ -1,4 +1,4 @@
--- Each answer to EXEC has its cause: a mark, a watched key written since its WATCH in force, or none; and without one it replies as posting does.
+-- Each answer to EXEC has its cause: a mark, a watched key written since it was first watched, or none; and without one it replies as posting does.
 use Prim.Native.Nat.{ℕ, _<_}
 use native.Mathlib.Omega.{arith}
 use native.Mathlib.Decide.{ℕ-discrete}
@@ -28,7 +28,7 @@ use Rattle.server.specs.Finish.{Served, silent, fitted, finishBy, finish}
 use Rattle.calls.specs.Serve.{serveReading, serve, Outcome, answered}
 use Rattle.calls.specs.Calls.{Lent, valid, storeOf, sessionOf, Called, request-call, Call, request, grouped, call, outcomes}
 use Rattle.calls.specs.Posting.{askedBy, Client, closed, enter, closedClients, postAll}
-use Rattle.calls.specs.Verdicts.{marks, Transaction, newTransaction, staleIn, markedAfter, isExec, asksExec, Executes, conflicted, execReply, VerdictsPosted}
+use Rattle.calls.specs.Verdicts.{marks, Transaction, newTransaction, staleIn, markedAfter, isExec, asksExec, Executes, conflicted, execReply, ExecPosted, VerdictsPosted}
 use Rattle.calls.specs.Demand3.{Opened, VerdictClaim}
 use Rattle.calls.proofs.FollowLaws.{Mirrors, read-now}
 use Rattle.calls.proofs.MarkLaws.{stays, serve-marks}
@@ -38,10 +38,10 @@ use Rattle.calls.proofs.LentLaws.{Valid, valid-parts, session-good, ser
 use Rattle.calls.proofs.IsolationLaws.{isolated}
 use Rattle.calls.proofs.Posting.{Clients, step-follows, opened-clients, opened-table}
 
--- by the reply that is due; a number is none
-abbrev Due : Reply → Result → Type 0
-Due x (number n) = Unit {0}
-Due x (reply r) = r ≡ x
+-- the reply that is due; a number only without a mark or a conflict
+abbrev Due : Bool → Bool → Table → List Args → Result → Type 0
+Due f c t q (number n) = (f || c) ≡ false
+Due f c t q (reply r) = r ≡ execReply f c t q
 
 -- what a transaction tells of a store and a watch: the watched keys that have moved
 abbrev Tells : Store → Watching → (Key → Bool) → Type 0
@@ -50,8 +50,8 @@ Tells st w stale = (k : Key) → stale k ≡ movedBy (st .versions) w k
 -- AN EXEC, BY ITS CAUSE, on a session that `d` mirrors
 module _ (st : Store) (s : Session) (sound : Sound st) (good : SessionSound (st .last) s) (d : Client) (m : Mirrors d s) (stale : Key → Bool)
     (tells : Tells st (s .watch) stale) where
-  abbrev due : Bool → List Args → Reply
-  due f q = execReply f (conflicted stale d) (table (st .versions)) q
+  abbrev DueHere : Bool → List Args → Result → Type 0
+  DueHere f q = Due f (conflicted stale d) (table (st .versions)) q
 
   same-conflict : anyMoved (st .versions) (s .watch) ≡ conflicted stale d
   same-conflict =
@@ -59,56 +59,57 @@ module _ (st : Store) (s : Session) (sound : Sound st) (good : SessionSound (st 
       ∙ any-alike (movedBy (st .versions) (s .watch)) stale (watchedKeys (s .watch)) (λ k. sym (tells k))
       ∙ any-same stale (watchedKeys (s .watch)) (d .watched) (λ k. sym (m .watched k))
 
-  ends-due : (q : List Args) → Due (due false q) (ends (verdictExec (writesBy q st) st (s .watch)) (ranBy q st) (writesBy q st) st s .result)
+  ends-due : (q : List Args) → DueHere false q (ends (verdictExec (writesBy q st) st (s .watch)) (ranBy q st) (writesBy q st) st s .result)
   unfolding verdictExec verdictAlone judge conflicts
   ends-due q = rw same-conflict (go (conflicted stale d) (hasRoom st (writesBy q st)) (hasSequences st (writesBy q st)))
     where
-      go : (c h n : Bool) → Due (execReply false c (table (st .versions)) q) (ends (cond c Conflict (cond h (cond n Accepted NoSequence) NoRoom)) (ranBy q st) (writesBy q st) st s .result)
+      go : (c h n : Bool) → Due false c (table (st .versions)) q (ends (cond c Conflict (cond h (cond n Accepted NoSequence) NoRoom)) (ranBy q st) (writesBy q st) st s .result)
       go true h n = unfold ends execReply in refl
       go false true true = unfold ends execReply ranBy in ap array (queue-replies (map commandOf q) _ (table (st .versions)) (ascending-table (st .versions)) (read-now st sound))
-      go false true false = unfold ends in tt
-      go false false n = unfold ends in tt
+      go false true false = unfold ends in refl
+      go false false n = unfold ends in refl
 
-  execute-due : (q : List Args) → Due (due (s .failed) q) (execute q st s .result)
+  execute-due : (q : List Args) → DueHere (s .failed) q (execute q st s .result)
   execute-due q = go (s .failed) refl
     where
-      go : (f : Bool) → s .failed ≡ f → Due (due f q) (execute q st s .result)
+      go : (f : Bool) → s .failed ≡ f → DueHere f q (execute q st s .result)
       go true p = rw (execute-failed q st s p) (unfold execReply in refl)
       go false p = rw (execute-ends q st s p) (ends-due q)
 
-  respond-due : (a : Args) (q : List Args) → isExec (controlOf (rowOf (nameWord a) .name)) ≡ true → s .queue ≡ some q → Due (due (s .failed) q) (respond a st s .result)
+  respond-due : (a : Args) (q : List Args) → isExec (controlOf (rowOf (nameWord a) .name)) ≡ true → s .queue ≡ some q → DueHere (s .failed) q (respond a st s .result)
   unfolding respond
   respond-due a q e o =
-      subst (λ (x : Option (List Args)). Due (due (s .failed) q) (respondBy x (rowOf (nameWord a)) a st s .result)) (sym o)
+      subst (λ (x : Option (List Args)). DueHere (s .failed) q (respondBy x (rowOf (nameWord a)) a st s .result)) (sym o)
       (unfold respondBy in
-      subst (λ (c : Control). Due (due (s .failed) q) (insideMulti c q (rowOf (nameWord a)) a st s .result)) (sym (is-exec _ e)) (unfold insideMulti in execute-due q))
+      subst (λ (c : Control). DueHere (s .failed) q (insideMulti c q (rowOf (nameWord a)) a st s .result)) (sym (is-exec _ e)) (unfold insideMulti in execute-due q))
 
-  finish-due : (y : Reply) (room used : ℕ) (x : Done) → Kept st s x → Due y (x .result) → finish room used x st s .number ≡ 0 → finish room used x st s .reply ≡ encode y
+  -- and with it the answer
+  abbrev PostedHere : List Args → Served → Type 0
+  PostedHere q x = ExecPosted (s .failed) (conflicted stale d) (table (st .versions)) q (x .number) (x .reply)
+
+  finish-due : (q : List Args) (room used : ℕ) (x : Done) → Kept st s x → DueHere (s .failed) q (x .result) → PostedHere q (finish room used x st s)
   unfolding finish
-  finish-due y room used x k h = go (x .result) h (k .numbers)
+  finish-due q room used x k h = go (x .result) h (k .numbers)
     where
-      fits : (r : Reply) → r ≡ y → (t : Bool)
-          → cond {A = Served} t (record { number = 0; used = used; reply = encode r; store = x .store; session = x .session }) (silent 3 0 st s) .number ≡ 0
-          → cond {A = Served} t (record { number = 0; used = used; reply = encode r; store = x .store; session = x .session }) (silent 3 0 st s) .reply ≡ encode y
-      fits r g true e = ap encode g
-      fits r g false e = absurd (omega arith)
+      fits : (r : Reply) → r ≡ execReply (s .failed) (conflicted stale d) (table (st .versions)) q → (t : Bool)
+          → PostedHere q (cond {A = Served} t (record { number = 0; used = used; reply = encode r; store = x .store; session = x .session }) (silent 3 0 st s))
+      fits r g true = record { replies = λ z. ap encode g; comes-first = λ c. (λ z. omega (arith, z), λ z. omega (arith, z)) }
+      fits r g false = record { replies = λ z. absurd (omega (arith, z)); comes-first = λ c. (λ z. omega (arith, z), λ z. omega (arith, z)) }
 
-      go : (r : Result) → Due y r → Refuses st s x r → finishBy r room used x st s .number ≡ 0 → finishBy r room used x st s .reply ≡ encode y
-      go (number n) g k = unfold finishBy in λ z. absurd (omega (arith, k .0, z))
+      go : (r : Result) → DueHere (s .failed) q r → Refuses st s x r → PostedHere q (finishBy r room used x st s)
+      go (number n) g k = unfold finishBy in record { replies = λ z. absurd (omega (arith, k .0, z)); comes-first = λ c. absurd (false≢true (sym g ∙ c)) }
       go (reply r) g k = unfold finishBy fitted in fits r g (leb (length (encode r)) room)
 
-  reading-due : (q : List Args) (room : ℕ) (input : Bytes) (x : Reading) → s .queue ≡ some q → asksExec (askedBy input x) ≡ true
-      → serveReading room input x st s .number ≡ 0 → serveReading room input x st s .reply ≡ encode (due (s .failed) q)
+  reading-due : (q : List Args) (room : ℕ) (input : Bytes) (x : Reading) → s .queue ≡ some q → asksExec (askedBy input x) ≡ true → PostedHere q (serveReading room input x st s)
   unfolding serveReading askedBy
-  reading-due q room input waits o e z = absurd (false≢true e)
-  reading-due q room input tooMany o e z = absurd (false≢true e)
-  reading-due q room input (faulty f) o e z = absurd (false≢true e)
-  reading-due q room input (whole [] used) o e z = absurd (false≢true e)
-  reading-due q room input (whole (p ∷ ps) used) o e z =
-      finish-due _ room used _ (respond-kept st s sound good (spanned input p) (map (spanned input) ps)) (respond-due (map (spanned input) (p ∷ ps)) q e o) z
+  reading-due q room input waits o e = absurd (false≢true e)
+  reading-due q room input tooMany o e = absurd (false≢true e)
+  reading-due q room input (faulty f) o e = absurd (false≢true e)
+  reading-due q room input (whole [] used) o e = absurd (false≢true e)
+  reading-due q room input (whole (p ∷ ps) used) o e =
+      finish-due q room used _ (respond-kept st s sound good (spanned input p) (map (spanned input) ps)) (respond-due (map (spanned input) (p ∷ ps)) q e o)
 
-  serve-due : (q : List Args) (places room : ℕ) (input : Bytes) → s .queue ≡ some q → asksExec (askedBy input (readRequest places input)) ≡ true
-      → serve places room input st s .number ≡ 0 → serve places room input st s .reply ≡ encode (due (s .failed) q)
+  serve-due : (q : List Args) (places room : ℕ) (input : Bytes) → s .queue ≡ some q → asksExec (askedBy input (readRequest places input)) ≡ true → PostedHere q (serve places room input st s)
   unfolding serve
   serve-due q places room input = reading-due q room input (readRequest places input)
 
@@ -141,17 +142,16 @@ module _ (i : ℕ) (inside : i < 16) (l : Lent) (ds : List Client) (ok : valid l
       go (yes e) = subst (λ (n : ℕ). MarkedIn (sessionOf i (request-call n s places room l .lent)) (marks i (request n s places room) (request-call n s places room l .outcome) ds)) (sym e) (own-marks s places room)
       go (no n) = same-marks _ (isolated .others j i s places room l ok inside (λ e. n (sym e))) _ (unfold marks in rw (ne-eqb j i n))
 
-  call-due : (stale : Key → Bool) → Tells (storeOf l) (watchAt i l) stale → (c : Call) (q : List Args) → getD ds i closed .queue ≡ some q → Executes i c (call c l .outcome)
-      → call c l .outcome .reply ≡ encode (execReply (sessionOf i l .failed) (conflicted stale (getD ds i closed)) (table (storeOf l .versions)) q)
+  call-due : (stale : Key → Bool) → Tells (storeOf l) (watchAt i l) stale → (c : Call) (q : List Args) → getD ds i closed .queue ≡ some q → Executes i c
+      → ExecPosted (sessionOf i l .failed) (conflicted stale (getD ds i closed)) (table (storeOf l .versions)) q (call c l .outcome .number) (call c l .outcome .reply)
   unfolding call
   call-due stale h (grouped ms parts d verdicts) q o e = absurd e
   call-due stale h (request j s places room) q o e =
       let d = servedBy i s places room l in
       let served : request-call j s places room l .outcome ≡ answered d =
       ap (λ (n : ℕ). request-call n s places room l .outcome) (e .0) ∙ ap (λ (x : Called). x .outcome) (request-served i s places room l inside ok) in
-      let accepted : d .number ≡ 0 = ap (λ (x : Outcome). x .number) (sym served) ∙ e .1 in
-      ap (λ (x : Outcome). x .reply) served
-      ∙ serve-due (storeOf l) (sessionOf i l) (v .sound) good (getD ds i closed) (g .mirrors i inside) stale h q places room s (sym (g .mirrors i inside .queue) ∙ o) (e .2) accepted
+      subst (λ (x : Outcome). ExecPosted (sessionOf i l .failed) (conflicted stale (getD ds i closed)) (table (storeOf l .versions)) q (x .number) (x .reply)) (sym served)
+      (serve-due (storeOf l) (sessionOf i l) (v .sound) good (getD ds i closed) (g .mirrors i inside) stale h q places room s (sym (g .mirrors i inside .queue) ∙ o) (e .1))
 
 -- A LIST OF CALLS. Session i is marked as posting has it, and its transaction tells of the store and its watch.
 record Tracks (i : ℕ) (l : Lent) (x : Transaction) : Type 0 where
@@ -177,18 +177,20 @@ verdicts-posted i inside (c ∷ cs) l ds t x ok g same h =
       }),
     )
 
--- a session above 15 has no EXEC that did not return a number
-never-executes : (i : ℕ) → ltb i 16 ≡ false → (l : Lent) (c : Call) → Executes i c (call c l .outcome) → ⊥
-never-executes i e l (grouped ms parts text verdicts) a = a
-never-executes i e l (request j input places room) a =
-    let n : request-call i input places room l .outcome .number ≡ 1 = ap (λ (x : Called). x .outcome .number) (request-refused i input places room l e) in
-    let z : request-call i input places room l .outcome .number ≡ 0 = ap (λ (m : ℕ). request-call m input places room l .outcome .number) (sym (a .0)) ∙ (unfold call in a .1) in
-    omega (arith, n, z)
+-- an EXEC of a session above 15 returns 1
+no-session-exec : (i : ℕ) → ltb i 16 ≡ false → (l : Lent) (c : Call) → Executes i c → call c l .outcome .number ≡ 1
+unfolding call
+no-session-exec i e l (grouped ms parts text verdicts) a = absurd a
+no-session-exec i e l (request j input places room) a =
+    ap (λ (m : ℕ). request-call m input places room l .outcome .number) (a .0) ∙ ap (λ (x : Called). x .outcome .number) (request-refused i input places room l e)
+
+one-posted : (f c : Bool) (t : Table) (q : List Args) (n : ℕ) (b : Bytes) → n ≡ 1 → ExecPosted f c t q n b
+one-posted f c t q n b e = record { replies = λ z. absurd (omega (arith, e, z)); comes-first = λ k. (λ z. omega (arith, e, z), λ z. omega (arith, e, z)) }
 
 no-session-verdicts : (i : ℕ) → ltb i 16 ≡ false → (cs : List Call) (l : Lent) (ds : List Client) (t : Table) (x : Transaction) → VerdictsPosted i cs (outcomes cs l) ds t x
 unfolding outcomes
 no-session-verdicts i e [] l ds t x = tt
-no-session-verdicts i e (c ∷ cs) l ds t x = (λ q o y. absurd (never-executes i e l c y), no-session-verdicts i e cs _ _ _ _)
+no-session-verdicts i e (c ∷ cs) l ds t x = (λ q o y. one-posted _ _ _ _ _ _ (no-session-exec i e l c y), no-session-verdicts i e cs _ _ _ _)
 
 opened-tracks : (i : ℕ) → i < 16 → (l : Lent) → Opened l → Tracks i l newTransaction
 opened-tracks i inside l o =

@@ -1,4 +1,4 @@
--- No EXEC is accepted with a key moved since its WATCH.
+-- No EXEC is accepted with a key moved since it was first watched.
 use Prim.Native.Nat.{ℕ, _≤_, _<_}
 use native.Mathlib.Omega.{arith}
 use native.Mathlib.Decide.{ℕ-discrete}
@@ -24,7 +24,7 @@ use Rattle.batch.specs.Members.{groupFits}
 use Rattle.server.specs.Names.{Args, Row, rowOf, nameWord, Control, MULTI, EXEC, DISCARD, WATCH, UNWATCH, QUIT, other, controlOf}
 use Rattle.server.specs.Session.{Watching, watchedKeys, Session, Result, number, reply, Done, anyMoved, verdictExec, outsideMulti, execute, insideMulti, respondBy, respond}
 use Rattle.server.proofs.WatchLaws.{movedBy, moved-any, moved-later}
-use Rattle.server.proofs.SessionLaws.{Renewed, renewed-same, still-unmoved, ranBy, writesBy, exec-calm, ends, execute-failed, execute-ends}
+use Rattle.server.proofs.SessionLaws.{WatchKept, watch-same, still-unmoved, ranBy, writesBy, exec-calm, ends, execute-failed, execute-ends}
 use Rattle.server.specs.Finish.{Served, silent, fitted, finishBy, finish}
 use Rattle.calls.specs.Serve.{serveReading, serve, Outcome, answered}
 use Rattle.calls.specs.Calls.{Lent, valid, storeOf, sessionOf, Called, leaveServed, request-call, Call, request, grouped, call, outcomes}
@@ -117,14 +117,14 @@ abbrev pub watchAt : ℕ → Lent → Watching
 watchAt i l = sessionOf i l .watch
 
 module _ (i : ℕ) (inside : i < 16) where
-  unmoved : (l : Lent) → valid l ≡ true → Renewed (storeOf l) (watchAt i l) (watchAt i l)
-  unmoved l ok = renewed-same (storeOf l) (sessionOf i l) (session-good l (valid-parts l ok) i inside)
+  unmoved : (l : Lent) → valid l ≡ true → WatchKept (storeOf l) (watchAt i l) (watchAt i l)
+  unmoved l ok = watch-same (storeOf l) (sessionOf i l) (session-good l (valid-parts l ok) i inside)
 
-  -- every call renews the watch of session i at most
-  request-renews : (j : ℕ) (input : Bytes) (places room : ℕ) (l : Lent) → valid l ≡ true → Renewed (storeOf l) (watchAt i l) (watchAt i (request-call j input places room l .lent))
-  request-renews j input places room l ok = go (ltb j 16) refl
+  -- every call keeps what has moved of the watch of session i
+  request-keeps-watch : (j : ℕ) (input : Bytes) (places room : ℕ) (l : Lent) → valid l ≡ true → WatchKept (storeOf l) (watchAt i l) (watchAt i (request-call j input places room l .lent))
+  request-keeps-watch j input places room l ok = go (ltb j 16) refl
     where
-      go : (b : Bool) → ltb j 16 ≡ b → Renewed (storeOf l) (watchAt i l) (watchAt i (request-call j input places room l .lent))
+      go : (b : Bool) → ltb j 16 ≡ b → WatchKept (storeOf l) (watchAt i l) (watchAt i (request-call j input places room l .lent))
       go false p = rw (request-refused j input places room l p) (unmoved l ok)
       go true p =
           let h = ltb-true j 16 p in
@@ -132,19 +132,19 @@ module _ (i : ℕ) (inside : i < 16) where
           let kept = serve-kept (storeOf l) (sessionOf j l) (v .sound) (session-good l v j h) places room input in
           rw (request-served j input places room l h ok) (which (kept .watch) (request-leaves j input places room l h ok) (ℕ-discrete i j))
         where
-          which : Renewed (storeOf l) (sessionOf j l .watch) (servedBy j input places room l .session .watch)
+          which : WatchKept (storeOf l) (sessionOf j l .watch) (servedBy j input places room l .session .watch)
               → Leaves j l (servedBy j input places room l) (leaveServed j (servedBy j input places room l) l)
-              → Dec (i ≡ j) → Renewed (storeOf l) (watchAt i l) (watchAt i (leaveServed j (servedBy j input places room l) l))
+              → Dec (i ≡ j) → WatchKept (storeOf l) (watchAt i l) (watchAt i (leaveServed j (servedBy j input places room l) l))
           which r left (yes e) =
-              subst (λ (n : ℕ). Renewed (storeOf l) (sessionOf n l .watch) (sessionOf n (leaveServed j (servedBy j input places room l) l) .watch)) (sym e)
-              (subst (λ (x : Session). Renewed (storeOf l) (sessionOf j l .watch) (x .watch)) (sym (left .own)) r)
-          which r left (no n) = subst (λ (x : Session). Renewed (storeOf l) (watchAt i l) (x .watch)) (sym (left .others i inside n)) (unmoved l ok)
+              subst (λ (n : ℕ). WatchKept (storeOf l) (sessionOf n l .watch) (sessionOf n (leaveServed j (servedBy j input places room l) l) .watch)) (sym e)
+              (subst (λ (x : Session). WatchKept (storeOf l) (sessionOf j l .watch) (x .watch)) (sym (left .own)) r)
+          which r left (no n) = subst (λ (x : Session). WatchKept (storeOf l) (watchAt i l) (x .watch)) (sym (left .others i inside n)) (unmoved l ok)
 
-  pub call-renews : (c : Call) (l : Lent) → valid l ≡ true → Renewed (storeOf l) (watchAt i l) (watchAt i (call c l .lent))
-  call-renews (request j input places room) l ok = unfold call in request-renews j input places room l ok
-  call-renews (grouped ms parts text verdicts) l ok = go (groupFits parts text ms verdicts) refl
+  pub call-keeps-watch : (c : Call) (l : Lent) → valid l ≡ true → WatchKept (storeOf l) (watchAt i l) (watchAt i (call c l .lent))
+  call-keeps-watch (request j input places room) l ok = unfold call in request-keeps-watch j input places room l ok
+  call-keeps-watch (grouped ms parts text verdicts) l ok = go (groupFits parts text ms verdicts) refl
     where
-      go : (b : Bool) → groupFits parts text ms verdicts ≡ b → Renewed (storeOf l) (watchAt i l) (watchAt i (call (grouped ms parts text verdicts) l .lent))
+      go : (b : Bool) → groupFits parts text ms verdicts ≡ b → WatchKept (storeOf l) (watchAt i l) (watchAt i (call (grouped ms parts text verdicts) l .lent))
       go false p = rw (group-refused ms parts text verdicts l ok p) (unmoved l ok)
       go true p = rw (group-judged ms parts text verdicts l ok p) (unmoved l ok)
 
@@ -170,7 +170,7 @@ module _ (st after : Store) (sound : Sound st) (written : List Key) (k : Key) (m
       go false e = moved-kept n e ∙ sym (rw e (or-false (moved n (st .versions) k)))
 
   -- a watched key has moved exactly if it had, or is written
-  pub moved-since : (w x : Watching) → Renewed st w x → movedBy (after .versions) x k ≡ (among (watchedKeys x) k && (movedBy (st .versions) w k || among written k))
+  pub moved-since : (w x : Watching) → WatchKept st w x → movedBy (after .versions) x k ≡ (among (watchedKeys x) k && (movedBy (st .versions) w k || among written k))
   moved-since w x r = moved-later (st .versions) (after .versions) (st .last) k (among written k) written-more x (r .bound) ∙ go (among (watchedKeys x) k) refl
     where
       go : (b : Bool) → among (watchedKeys x) k ≡ b → (b && (movedBy (st .versions) x k || among written k)) ≡ (b && (movedBy (st .versions) w k || among written k))
@@ -191,7 +191,7 @@ module _ (k : Key) where
         let l′ = call c l .lent in
         let written = writtenIn (enter c (call c l .outcome) ds .items) (table (storeOf l .versions)) in
         (λ z. f .clients .mirrors i inside .watched k z && (h z || among written k))
-        ∙ sym (moved-since (storeOf l) (storeOf l′) (valid-parts l ok .sound) written k (f .moves k) (f .keeps k) (watchAt i l) (watchAt i l′) (call-renews i inside c l ok))
+        ∙ sym (moved-since (storeOf l) (storeOf l′) (valid-parts l ok .sound) written k (f .moves k) (f .keeps k) (watchAt i l) (watchAt i l′) (call-keeps-watch i inside c l ok))
 
     -- an accepted EXEC finds no stale key
     accepts-fresh : (c : Call) (l : Lent) (stale : Bool) → valid l ≡ true → Late l stale → stale ≡ true → Accepts i c (call c l .outcome) → ⊥

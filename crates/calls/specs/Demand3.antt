@@ -170,8 +170,8 @@ NoStalePosted i k (c ∷ cs) (o ∷ os) ds t stale =
 abbrev pub PostedWatchClaim : Type 0
 PostedWatchClaim = (cs : List Call) (l : Lent) → Opened l → (i : ℕ) (k : Key) → NoStalePosted i k cs (outcomes cs l) closedClients [] false
 
--- EACH ANSWER TO EXEC HAS ITS CAUSE: a mark gives EXECABORT, a watched key written since its WATCH in force `*-1`, and every other EXEC is
--- accepted, and replies as posting does. For any list of calls and session
+-- EACH ANSWER TO EXEC HAS ITS CAUSE: a mark gives EXECABORT, a watched key written since it was first watched `*-1`, and neither meets 6 or 7;
+-- every other EXEC without a number is accepted, and replies as posting does. For any list of calls and session
 abbrev pub VerdictClaim : Type 0
 VerdictClaim = (cs : List Call) (l : Lent) → Opened l → (i : ℕ) → VerdictsPosted i cs (outcomes cs l) closedClients [] newTransaction
 

@@ -59,7 +59,7 @@ MadeClaim = (l l′ : Lent) (cs : List Call) (os : List Outcome) → Opened l �
 -- a store that the opening call has opened, beside sessions of zeros
 abbrev pub OpensClaim : Type 0
 OpensClaim =
-    (last versions size : ℕ) (w : List ℕ) (b : Bytes) (w′ : List ℕ) (b′ : Bytes) (n m : ℕ) → 16 * 645 ≤ n → 16 * 10240 ≤ m
+    (last versions size : ℕ) (w : List ℕ) (b : Bytes) (w′ : List ℕ) (b′ : Bytes) (n m : ℕ) → 16 * 644 ≤ n → 16 * 10240 ≤ m
     → OpenPromise last versions size w b 0 w′ b′ → Opened (lentOf w′ b′ (replicate n 0) (replicate m 0))
 
 -- What session i has queued or watched alters no answer to another until its EXEC is accepted: the same calls made without its requests,

@@ -73,7 +73,7 @@ unfoldable pub marks : ℕ → Call → Outcome → List Client → Bool
 marks i (request j s places room) o ds = eqb j i && marksBy (getD ds i closed .queue) (askedBy s (readRequest places s)) o
 marks i (grouped ms parts d verdicts) o ds = false
 
--- THE TRANSACTION of a session: the watched keys that were written since their WATCH in force, and the mark
+-- THE TRANSACTION of a session: the watched keys that were written since they were first watched, and the mark
 pub record Transaction : Type 0 where
   pub stale : Key → Bool
   pub marked : Bool
@@ -82,7 +82,7 @@ pub record Transaction : Type 0 where
 abbrev pub newTransaction : Transaction
 newTransaction = record { stale = λ k. false; marked = false }
 
--- whether k is watched by session i after a call and was written since its WATCH; `e` is what posting makes of the call
+-- whether k is watched by session i after a call and was written since it was first watched; `e` is what posting makes of the call
 abbrev pub staleIn : ℕ → Key → Entered → Table → Bool → Bool
 staleIn i k e t stale = among (getD (e .clients) i closed .watched) k && (stale || among (writtenIn (e .items) t) k)
 
@@ -116,12 +116,12 @@ asksExec nothing = false
 asksExec broken = false
 asksExec (asks a) = isExec (controlOf (rowOf (nameWord a) .name))
 
--- an EXEC of session i that did not return a number
-abbrev pub Executes : ℕ → Call → Outcome → Type 0
-Executes i (request j s places room) o = (j ≡ i) × (o .number ≡ 0) × (asksExec (askedBy s (readRequest places s)) ≡ true)
-Executes i (grouped ms parts d verdicts) o = ⊥
+-- an EXEC of session i
+abbrev pub Executes : ℕ → Call → Type 0
+Executes i (request j s places room) = (j ≡ i) × (asksExec (askedBy s (readRequest places s)) ≡ true)
+Executes i (grouped ms parts d verdicts) = ⊥
 
--- a key that the EXEC watches was written since its WATCH
+-- a key that the EXEC watches was written since it was first watched
 abbrev pub conflicted : (Key → Bool) → Client → Bool
 conflicted stale d = anyKey stale (d .watched)
 
@@ -131,11 +131,16 @@ execReply true conflict t q = execAbort
 execReply false true t q = NilArray
 execReply false false t q = array (postReplies t (map commandOf q))
 
+-- number and reply of an EXEC: without a number this reply; a mark or a conflict comes before 6 and 7
+pub record ExecPosted (marked conflict : Bool) (t : Table) (q : List Args) (n : ℕ) (b : Bytes) : Type 0 where
+  pub replies : n ≡ 0 → b ≡ encode (execReply marked conflict t q)
+  pub comes-first : (marked || conflict) ≡ true → (n ≡ 6 → ⊥) × (n ≡ 7 → ⊥)
+
 -- every EXEC of session i inside MULTI
 abbrev pub VerdictsPosted : ℕ → List Call → List Outcome → List Client → Table → Transaction → Type 0
 VerdictsPosted i [] os ds t x = Unit {0}
 VerdictsPosted i (c ∷ cs) [] ds t x = Unit {0}
 VerdictsPosted i (c ∷ cs) (o ∷ os) ds t x =
-    ((q : List Args) → getD ds i closed .queue ≡ some q → Executes i c o →
-    o .reply ≡ encode (execReply (x .marked) (conflicted (x .stale) (getD ds i closed)) t q))
+    ((q : List Args) → getD ds i closed .queue ≡ some q → Executes i c →
+    ExecPosted (x .marked) (conflicted (x .stale) (getD ds i closed)) t q (o .number) (o .reply))
     × VerdictsPosted i cs os (enter c o ds .clients) (postAll (enter c o ds .items) t) (transactionAfter i c o ds t x)

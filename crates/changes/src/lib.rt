@@ -7,7 +7,7 @@ ghost use Rattle.server.specs.Held.{Left, cleared, opened, unwatched};
 
 // Is the session inside MULTI?
 pub fn in_multi(words: &[u64]) -> bool
-    requires { ⌜ length (now words) ≡ 645 ⌝ }
+    requires { ⌜ length (now words) ≡ 644 ⌝ }
     ensures { λ r. ⌜ r ≡ yes? (getD (now (words .entry)) 0 0) ⌝ }
 {
     words[0] != 0
@@ -15,7 +15,7 @@ pub fn in_multi(words: &[u64]) -> bool
 
 // Is the session marked failed?
 pub fn failed(words: &[u64]) -> bool
-    requires { ⌜ length (now words) ≡ 645 ⌝ }
+    requires { ⌜ length (now words) ≡ 644 ⌝ }
     ensures { λ r. ⌜ r ≡ yes? (getD (now (words .entry)) 1 0) ⌝ }
 {
     words[1] != 0
@@ -23,18 +23,18 @@ pub fn failed(words: &[u64]) -> bool
 
 // Drops queue, watch and mark.
 pub fn clear(words: &mut [u64])
-    requires { ⌜ length (now words) ≡ 645 ⌝ }
+    requires { ⌜ length (now words) ≡ 644 ⌝ }
     ensures { λ _. ⌜ Left cleared (now (words .entry)) (now (words .exit)) ⌝ }
 {
     words[0] = 0;
     words[1] = 0;
+    words[2] = 0;
     words[3] = 0;
-    words[4] = 0;
 }
 
 // Marks the session failed. A mark that is set stays as it is.
 pub fn mark_failed(words: &mut [u64])
-    requires { ⌜ length (now words) ≡ 645 ⌝ }
+    requires { ⌜ length (now words) ≡ 644 ⌝ }
     ensures { λ _. ⌜ Left marked (now (words .entry)) (now (words .exit)) ⌝ }
 {
     if words[1] == 0 {
@@ -45,7 +45,7 @@ pub fn mark_failed(words: &mut [u64])
 
 // Opens MULTI, outside of it: an empty queue, and no mark.
 pub fn open_multi(words: &mut [u64])
-    requires { ⌜ (length (now words) ≡ 645) × (getD (now words) 0 0 ≡ 0) ⌝ }
+    requires { ⌜ (length (now words) ≡ 644) × (getD (now words) 0 0 ≡ 0) ⌝ }
     ensures { λ _. ⌜ Left opened (now (words .entry)) (now (words .exit)) ⌝ }
 {
     words[0] = 1;
@@ -54,8 +54,8 @@ pub fn open_multi(words: &mut [u64])
 
 // Drops the watch.
 pub fn unwatch(words: &mut [u64])
-    requires { ⌜ length (now words) ≡ 645 ⌝ }
+    requires { ⌜ length (now words) ≡ 644 ⌝ }
     ensures { λ _. ⌜ Left unwatched (now (words .entry)) (now (words .exit)) ⌝ }
 {
-    words[3] = 0;
+    words[2] = 0;
 }

@@ -12,7 +12,7 @@ ghost use Rattle.conclude.specs.Leaving.{Closes, Commits, Concludes};
 
 // The answer to an EXEC that writes nothing, whose reply was put: 3 where it does not fit.
 pub fn close(session_words: &mut [u64], put: Put, used: usize) -> Answer
-    requires { ⌜ length (now «session_words») ≡ 645 ⌝ }
+    requires { ⌜ length (now «session_words») ≡ 644 ⌝ }
     ensures { λ r. ⌜ Closes put used (now («session_words» .entry)) (now («session_words» .exit)) r ⌝ }
 {
     let Put::Wrote(n) = put else {
@@ -48,7 +48,7 @@ fn commit_reply(
     put: Put,
     used: usize,
 ) -> Answer
-    requires { ⌜ length (now session) ≡ 645 ⌝ }
+    requires { ⌜ length (now session) ≡ 644 ⌝ }
     requires { ⌜ Own (now own) (now «data») rows ⌝ }
     requires { ⌜ Valid (now words) (now bytes) ⌝ }
     requires { ⌜ RoomFor (now words) rows (sizesFrom (now own) 0 rows) ⌝ }
@@ -78,7 +78,7 @@ pub fn conclude(
     put: Put,
     used: usize,
 ) -> Answer
-    requires { ⌜ length (now «session_words») ≡ 645 ⌝ }
+    requires { ⌜ length (now «session_words») ≡ 644 ⌝ }
     requires { ⌜ Own (now own) (now «data») rows ⌝ }
     requires { ⌜ Valid (now words) (now bytes) ⌝ }
     ensures { λ r. ⌜ Concludes (ownWrites (now (own .entry)) (now («data» .entry)) rows) put used (now (words .entry)) (now (bytes .entry)) (now («session_words» .entry)) (now (out .entry)) (now (words .exit)) (now (bytes .exit)) (now («session_words» .exit)) (now (out .exit)) r ⌝ }

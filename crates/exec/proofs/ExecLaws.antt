@@ -32,15 +32,15 @@ use Rattle.exec.specs.Execution.{LaidOut, execServed, ExecReady}
 use Rattle.exec.proofs.Progress.{ended, execute-conflict, execute-concluded, replies-are}
 
 -- THE TESTS of a session
-pub positive-counts : (last : ℕ) (s : List ℕ) (sb : Bytes) → sessionOk last s sb ≡ true → allPositive (part 69 (getD s 4 0) s) ≡ true
+pub positive-counts : (last : ℕ) (s : List ℕ) (sb : Bytes) → sessionOk last s sb ≡ true → allPositive (part 68 (getD s 3 0) s) ≡ true
 unfolding sessionOk queueOk
 positive-counts last s sb e =
-    let a : Bool = leb (getD s 4 0) 64 in
-    let b : Bool = leb (total (part 69 (getD s 4 0) s)) 512 in
-    let c : Bool = leb (total (part 133 (total (part 69 (getD s 4 0) s)) s)) 8192 in
-    let d : Bool = allPositive (part 69 (getD s 4 0) s) in
+    let a : Bool = leb (getD s 3 0) 64 in
+    let b : Bool = leb (total (part 68 (getD s 3 0) s)) 512 in
+    let c : Bool = leb (total (part 132 (total (part 68 (getD s 3 0) s)) s)) 8192 in
+    let d : Bool = allPositive (part 68 (getD s 3 0) s) in
     let f : Bool = allQueueable (queueIn s sb) in
-    let g : Bool = cond (yes? (getD s 0 0)) true (eqb (getD s 4 0) 0) in
+    let g : Bool = cond (yes? (getD s 0 0)) true (eqb (getD s 3 0) 0) in
     let q = and-right (watchOk last s sb) (queueOk s sb) e in
     let r1 = and-right a (b and (c and (d and (f and g)))) q in
     let r2 = and-right b (c and (d and (f and g))) r1 in
@@ -94,12 +94,12 @@ exec-ready last s sb w b out o ok v z f-is f-no t-is t-no = record {
 -- AFTER THE QUEUE
 module _ (s : List ℕ) (sb : Bytes) (w b : List ℕ) (used : ℕ) (out : Bytes) (x : ExecReady s sb w b out)
     {p′ : List ℕ} {d₀ d₁ : Bytes} {in-use : ℕ} (l : LaidOut s sb d₀ p′ d₁ in-use) {own own′ : List ℕ} {d₂ mid : Bytes} {a : Walked}
-    (ran : QueueRan (advanceAll (getD w 2 0) (versionsIn w b) (commandsIn s p′ (take in-use d₁)) begun) (getD s 4 0) own d₁ out own′ d₂ mid a) where
+    (ran : QueueRan (advanceAll (getD w 2 0) (versionsIn w b) (commandsIn s p′ (take in-use d₁)) begun) (getD s 3 0) own d₁ out own′ d₂ mid a) where
   progress-is : advanceAll (getD w 2 0) (versionsIn w b) (commandsIn s p′ (take in-use d₁)) begun ≡ ended (queueIn s sb) (storeIn w b)
   unfolding ended storeIn
   progress-is = ap (λ (cs : List Command). advanceAll (getD w 2 0) (versionsIn w b) cs begun) (l .commands)
 
-  reply-is : head 42 (getD s 4 0) ++ advanceAll (getD w 2 0) (versionsIn w b) (commandsIn s p′ (take in-use d₁)) begun .replies ≡ encode (array (ranBy (queueIn s sb) (storeIn w b) .replies))
+  reply-is : head 42 (getD s 3 0) ++ advanceAll (getD w 2 0) (versionsIn w b) (commandsIn s p′ (take in-use d₁)) begun .replies ≡ encode (array (ranBy (queueIn s sb) (storeIn w b) .replies))
   reply-is =
       (λ z. head 42 (sym (length-map (queueIn s sb) commandOf ∙ queue-count (x .held)) z) ++ progress-is z .replies)
       ∙ sym (replies-are (queueIn s sb) (storeIn w b))

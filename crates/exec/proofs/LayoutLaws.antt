@@ -36,22 +36,22 @@ place-inside start (n ∷ ns) rest (suc k) h =
     let y : getD (start ∷ n ∷ l) (2 * suc k + 1) 0 ≡ getD l (2 * k + 1) 0 = let e : 2 * suc k + 1 ≡ suc (suc (2 * k + 1)) = omega arith in ap (λ (i : ℕ). getD (start ∷ n ∷ l) i 0) e in
     omega (arith, x, y, place-inside (start + n) ns rest k (omega arith))
 
-module _ {s : List ℕ} {sb : Bytes} (h : Held s sb) {q n : ℕ} (q-is : q ≡ getD s 4 0) (n-is : n ≡ capped 512 (total (part 69 q s))) where
-  count-is : n ≡ total (part 69 (getD s 4 0) s)
-  count-is = n-is ∙ ap (λ (m : ℕ). capped 512 (total (part 69 m s))) q-is ∙ capped-low 512 (total (part 69 (getD s 4 0) s)) (h .few-arguments)
+module _ {s : List ℕ} {sb : Bytes} (h : Held s sb) {q n : ℕ} (q-is : q ≡ getD s 3 0) (n-is : n ≡ capped 512 (total (part 68 q s))) where
+  count-is : n ≡ total (part 68 (getD s 3 0) s)
+  count-is = n-is ∙ ap (λ (m : ℕ). capped 512 (total (part 68 m s))) q-is ∙ capped-low 512 (total (part 68 (getD s 3 0) s)) (h .few-arguments)
 
-  pub lengths-in : 133 + n ≤ length s
+  pub lengths-in : 132 + n ≤ length s
   lengths-in = omega (arith, count-is, h .few-arguments, h .words)
 
-  lengths-room : total (part 133 n s) ≤ 8192
-  lengths-room = subst (λ (m : ℕ). total (part 133 m s) ≤ 8192) (sym count-is) (h .room)
+  lengths-room : total (part 132 n s) ≤ 8192
+  lengths-room = subst (λ (m : ℕ). total (part 132 m s) ≤ 8192) (sym count-is) (h .room)
 
   pub expandable : (p : List ℕ) → 1024 ≤ length p → Expandable s p n
   expandable p l = record { words = h .words; few = omega (arith, count-is, h .few-arguments); room = lengths-room; table = omega (arith, count-is, h .few-arguments) }
 
-  module _ {u : ℕ} (u-is : u ≡ capped 8192 (total (part 133 n s))) where
-    sum-is : u ≡ total (part 133 n s)
-    sum-is = u-is ∙ capped-low 8192 (total (part 133 n s)) lengths-room
+  module _ {u : ℕ} (u-is : u ≡ capped 8192 (total (part 132 n s))) where
+    sum-is : u ≡ total (part 132 n s)
+    sum-is = u-is ∙ capped-low 8192 (total (part 132 n s)) lengths-room
 
     pub sum-small : u ≤ 8192
     sum-small = omega (arith, sum-is, lengths-room)
@@ -59,13 +59,13 @@ module _ {s : List ℕ} {sb : Bytes} (h : Held s sb) {q n : ℕ} (q-is : q ≡ g
     pub bytes-in : 2048 + u ≤ length sb
     bytes-in = omega (arith, sum-small, h .bytes)
 
-    pub laid-out : (p : List ℕ) {p′ : List ℕ} (d : Bytes) {d′ : Bytes} → allPositive (part 69 (getD s 4 0) s) ≡ true → 1024 ≤ length p → 11520 ≤ length d
-        → p′ ≡ putAt 0 (placesOf 2048 (part 133 n s)) p → d′ ≡ putAt 0 (take (2048 + u) sb) d → LaidOut s sb d p′ d′ (2048 + u)
+    pub laid-out : (p : List ℕ) {p′ : List ℕ} (d : Bytes) {d′ : Bytes} → allPositive (part 68 (getD s 3 0) s) ≡ true → 1024 ≤ length p → 11520 ≤ length d
+        → p′ ≡ putAt 0 (placesOf 2048 (part 132 n s)) p → d′ ≡ putAt 0 (take (2048 + u) sb) d → LaidOut s sb d p′ d′ (2048 + u)
     unfolding putAt commandsIn
     laid-out p {p′} d {d′} positive lp ld p-is d-is =
-        let t : ℕ = total (part 69 (getD s 4 0) s) in
-        let ls : List ℕ = part 133 n s in
-        let long : length ls ≡ n = length-part 133 n s lengths-in in
+        let t : ℕ = total (part 68 (getD s 3 0) s) in
+        let ls : List ℕ = part 132 n s in
+        let long : length ls ≡ n = length-part 132 n s lengths-in in
         let front : length (take (2048 + u) sb) ≡ 2048 + u = length-take-le (2048 + u) sb bytes-in in
         let in-use : take (2048 + u) d′ ≡ take (2048 + u) sb = ap (take (2048 + u)) d-is ∙ take-at (take (2048 + u) sb) (drop (0 + length (take (2048 + u) sb)) d) (2048 + u) front in
         let rest : List ℕ = drop (0 + length (placesOf 2048 ls)) p in
@@ -82,14 +82,14 @@ module _ {s : List ℕ} {sb : Bytes} (h : Held s sb) {q n : ℕ} (q-is : q ≡ g
         let all : argumentsAt 0 t p′ (take (2048 + u) sb) ≡ concat (queueIn s sb) =
         sym (grown-arguments p′ (take (2048 + u) sb) (drop (2048 + u) sb) t 0 t parts (omega arith))
         ∙ ap (argumentsAt 0 t p′) (take-append-drop (2048 + u) sb)
-        ∙ ap (λ (x : List ℕ). argumentsAt 0 t x sb) (p-is ∙ ap (λ (m : ℕ). putAt 0 (placesOf 2048 (part 133 m s)) p) count-is)
+        ∙ ap (λ (x : List ℕ). argumentsAt 0 t x sb) (p-is ∙ ap (λ (m : ℕ). putAt 0 (placesOf 2048 (part 132 m s)) p) count-is)
         ∙ expanded h p in
         let size : length d′ ≡ length d =
         ap length d-is ∙ length-append (take (2048 + u) sb) (drop (0 + length (take (2048 + u) sb)) d) ∙ omega (arith, length-drop (0 + length (take (2048 + u) sb)) d, front, sum-small) in
         record {
           queued = subst (Queued s p′) (sym in-use) (record { words = h .words; few = h .few-commands; few-arguments = h .few-arguments; positive = positive; parts = parts });
-          commands = ap (λ (x : Bytes). map commandOf (splitBy (part 69 (getD s 4 0) s) (argumentsAt 0 t p′ x))) in-use
-              ∙ ap (λ (x : Args). map commandOf (splitBy (part 69 (getD s 4 0) s) x)) all
+          commands = ap (λ (x : Bytes). map commandOf (splitBy (part 68 (getD s 3 0) s) (argumentsAt 0 t p′ x))) in-use
+              ∙ ap (λ (x : Args). map commandOf (splitBy (part 68 (getD s 3 0) s) x)) all
               ∙ ap (λ (x : List ℕ). map commandOf (splitBy x (concat (queueIn s sb)))) (sym (queue-counts h))
               ∙ ap (map commandOf) (split-whole (queueIn s sb));
           room = omega (arith, size, sum-small);

@@ -5,4 +5,3 @@ pub mod LayoutLaws
 pub mod Progress
 pub mod QueuedLaws
 pub mod WalkLaws
-pub mod WatchedKeys

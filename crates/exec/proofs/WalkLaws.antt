@@ -65,27 +65,27 @@ grown-arguments p d t count j (suc m) ps h =
 
 -- THE WALK: the first i commands, of the first `first` arguments, have been run; d₀ is the data that was in use before them
 pub record Walking (s p : List ℕ) (d₀ : Bytes) (w : List ℕ) (b : Bytes) (seq : ℕ) (put₀ : Put) (own₀ : List ℕ) (data₀ out₀ : Bytes) (own : List ℕ) (d out : Bytes) (a : Walked) (first i : ℕ) : Type 0 where
-  pub within : i ≤ getD s 4 0
-  pub first-is : first + total (part (69 + i) (getD s 4 0 - i) s) ≡ total (part 69 (getD s 4 0) s)
-  pub positive : allPositive (part (69 + i) (getD s 4 0 - i) s) ≡ true
+  pub within : i ≤ getD s 3 0
+  pub first-is : first + total (part (68 + i) (getD s 3 0 - i) s) ≡ total (part 68 (getD s 3 0) s)
+  pub positive : allPositive (part (68 + i) (getD s 3 0 - i) s) ≡ true
   pub kept : Own own (take (a .used) d) (a .rows)
   pub front : take (length d₀) d ≡ d₀
   pub used-more : length d₀ ≤ a .used
-  pub used-room : a .used + 20 * (getD s 4 0 - i) ≤ length d
+  pub used-room : a .used + 20 * (getD s 3 0 - i) ≤ length d
   pub few-rows : a .rows ≤ first
   pub replies : Bytes
   pub is : advanceAll seq (versionsIn w b) (commandsIn s p d₀) begun
-      ≡ advanceAll seq (versionsIn w b) (map commandOf (splitBy (part (69 + i) (getD s 4 0 - i) s) (argumentsAt first (total (part (69 + i) (getD s 4 0 - i) s)) p d₀)))
+      ≡ advanceAll seq (versionsIn w b) (map commandOf (splitBy (part (68 + i) (getD s 3 0 - i) s) (argumentsAt first (total (part (68 + i) (getD s 3 0 - i) s)) p d₀)))
       (record { writes = ownWrites own (take (a .used) d) (a .rows); replies = replies })
   pub follows : Follows replies put₀ out₀ (a .put) out
   pub same : length own ≡ length own₀
   pub same-data : length d ≡ length data₀
 
-pub walking-none : (s p : List ℕ) (w : List ℕ) (b : Bytes) (seq used : ℕ) (put₀ : Put) (own d out : Bytes) {n : ℕ} → n ≡ getD s 4 0 → Queued s p (take used d) → used + 1280 ≤ length d
+pub walking-none : (s p : List ℕ) (w : List ℕ) (b : Bytes) (seq used : ℕ) (put₀ : Put) (own d out : Bytes) {n : ℕ} → n ≡ getD s 3 0 → Queued s p (take used d) → used + 1280 ≤ length d
     → Walking s p (take used d) w b seq put₀ own d out own d out (record { rows = 0; used = used; put = put₀ }) 0 0
 unfolding commandsIn
 walking-none s p w b seq used put₀ own d out n-is q h =
-    let e : part 69 (getD s 4 0) s ≡ part (69 + 0) (getD s 4 0 - 0) s = part-start s 69 (getD s 4 0) in
+    let e : part 68 (getD s 3 0) s ≡ part (68 + 0) (getD s 3 0 - 0) s = part-start s 68 (getD s 3 0) in
     let l : length (take used d) ≡ used = length-take-le used d (omega arith) in
     record {
       within = omega arith;
@@ -105,30 +105,30 @@ walking-none s p w b seq used put₀ own d out n-is q h =
 
 module _ {s p : List ℕ} {d₀ : Bytes} {w : List ℕ} {b : Bytes} {seq : ℕ} {put₀ : Put} {own₀ : List ℕ} {data₀ out₀ : Bytes} {own : List ℕ} {d out : Bytes} {a : Walked} {first i : ℕ}
     (g : Walking s p d₀ w b seq put₀ own₀ data₀ out₀ own d out a first i) (q : Queued s p d₀) where
-  module _ {n count : ℕ} (n-is : n ≡ getD s 4 0) (l : i < n) (c-is : count ≡ getD s (69 + i) 0) where
-    h : i < getD s 4 0
+  module _ {n count : ℕ} (n-is : n ≡ getD s 3 0) (l : i < n) (c-is : count ≡ getD s (68 + i) 0) where
+    h : i < getD s 3 0
     h = omega arith
 
-    counts-next : part (69 + i) (getD s 4 0 - i) s ≡ count ∷ part (69 + (i + 1)) (getD s 4 0 - (i + 1)) s
-    counts-next = part-next s 69 (getD s 4 0) i 0 h (omega (arith, q .words, q .few)) ∙ ap (λ (x : ℕ). x ∷ part (69 + (i + 1)) (getD s 4 0 - (i + 1)) s) (sym c-is)
+    counts-next : part (68 + i) (getD s 3 0 - i) s ≡ count ∷ part (68 + (i + 1)) (getD s 3 0 - (i + 1)) s
+    counts-next = part-next s 68 (getD s 3 0) i 0 h (omega (arith, q .words, q .few)) ∙ ap (λ (x : ℕ). x ∷ part (68 + (i + 1)) (getD s 3 0 - (i + 1)) s) (sym c-is)
 
-    total-next : total (part (69 + i) (getD s 4 0 - i) s) ≡ count + total (part (69 + (i + 1)) (getD s 4 0 - (i + 1)) s)
+    total-next : total (part (68 + i) (getD s 3 0 - i) s) ≡ count + total (part (68 + (i + 1)) (getD s 3 0 - (i + 1)) s)
     unfolding total
     total-next = ap total counts-next
 
-    positive-next : (yes? count and allPositive (part (69 + (i + 1)) (getD s 4 0 - (i + 1)) s)) ≡ true
+    positive-next : (yes? count and allPositive (part (68 + (i + 1)) (getD s 3 0 - (i + 1)) s)) ≡ true
     unfolding allPositive
     positive-next = sym (ap allPositive counts-next) ∙ g .positive
 
     -- the command has its name
     pub count-least : 1 ≤ count
-    count-least = go count (and-left (yes? count) (allPositive (part (69 + (i + 1)) (getD s 4 0 - (i + 1)) s)) positive-next)
+    count-least = go count (and-left (yes? count) (allPositive (part (68 + (i + 1)) (getD s 3 0 - (i + 1)) s)) positive-next)
       where
         go : (n : ℕ) → yes? n ≡ true → 1 ≤ n
         go zero e = let z : _≡_ {A = ℕ} 0 1 = cc in absurd (omega arith)
         go (suc n) e = omega arith
 
-    pub last-argument : first + count ≤ total (part 69 (getD s 4 0) s)
+    pub last-argument : first + count ≤ total (part 68 (getD s 3 0) s)
     last-argument = omega (arith, g .first-is, total-next)
 
     pub places-in : 2 * first + 2 * count ≤ length p
@@ -151,7 +151,7 @@ module _ {s p : List ℕ} {d₀ : Bytes} {w : List ℕ} {b : Bytes} {seq : ℕ} 
         slice-arguments p (take (a .used) d) first (2 * first + 2 * count - 2 * first) 0 count (omega arith)
         ∙ ap (λ (j : ℕ). argumentsAt j count p (take (a .used) d)) (add-zero first)
         ∙ ap (argumentsAt first count p) used-is
-        ∙ grown-arguments p d₀ (drop (length d₀) (take (a .used) d)) (total (part 69 (getD s 4 0) s)) first count (q .parts) last-argument
+        ∙ grown-arguments p d₀ (drop (length d₀) (take (a .used) d)) (total (part 68 (getD s 3 0) s)) first count (q .parts) last-argument
 
     pub lent-parts : PartsIn (part (2 * first) (2 * first + 2 * count - 2 * first) p) (take (a .used) d) count
     lent-parts = record {
@@ -182,12 +182,12 @@ module _ {s p : List ℕ} {d₀ : Bytes} {w : List ℕ} {b : Bytes} {seq : ℕ} 
     walking-more {own′} {d′} {out′} {r} x =
         let c : Command = commandOf (argumentsAt first count p d₀) in
         let same-command : commandOf (argumentsAt 0 count (part (2 * first) (2 * first + 2 * count - 2 * first) p) (take (a .used) d)) ≡ c = ap commandOf lent-arguments in
-        let m : ℕ = total (part (69 + (i + 1)) (getD s 4 0 - (i + 1)) s) in
+        let m : ℕ = total (part (68 + (i + 1)) (getD s 3 0 - (i + 1)) s) in
         let e = run (readerOf own (take (a .used) d) (a .rows) w b seq) (commandOf (argumentsAt 0 count (part (2 * first) (2 * first + 2 * count - 2 * first) p) (take (a .used) d))) in
         record {
           within = omega arith;
           first-is = omega (arith, g .first-is, total-next);
-          positive = and-right (yes? count) (allPositive (part (69 + (i + 1)) (getD s 4 0 - (i + 1)) s)) positive-next;
+          positive = and-right (yes? count) (allPositive (part (68 + (i + 1)) (getD s 3 0 - (i + 1)) s)) positive-next;
           kept = x .kept;
           front = sym (take-take (length d₀) (a .used) d′ (g .used-more)) ∙ ap (take (length d₀)) (x .data-kept) ∙ take-take (length d₀) (a .used) d (g .used-more) ∙ g .front;
           used-more = omega (arith, g .used-more, x .used-more);
@@ -197,24 +197,24 @@ module _ {s p : List ℕ} {d₀ : Bytes} {w : List ℕ} {b : Bytes} {seq : ℕ} 
           is = g .is
               ∙ (λ z. advanceAll seq (versionsIn w b) (map commandOf (splitBy (counts-next z) (argumentsAt first (total-next z) p d₀)))
               (record { writes = ownWrites own (take (a .used) d) (a .rows); replies = g .replies }))
-              ∙ (λ z. advanceAll seq (versionsIn w b) (map commandOf (take-arguments first count m p d₀ z ∷ splitBy (part (69 + (i + 1)) (getD s 4 0 - (i + 1)) s) (drop-arguments first count m p d₀ z)))
+              ∙ (λ z. advanceAll seq (versionsIn w b) (map commandOf (take-arguments first count m p d₀ z ∷ splitBy (part (68 + (i + 1)) (getD s 3 0 - (i + 1)) s) (drop-arguments first count m p d₀ z)))
               (record { writes = ownWrites own (take (a .used) d) (a .rows); replies = g .replies }))
-              ∙ ap (λ (k : Command). advanceAll seq (versionsIn w b) (k ∷ map commandOf (splitBy (part (69 + (i + 1)) (getD s 4 0 - (i + 1)) s) (argumentsAt (first + count) m p d₀)))
+              ∙ ap (λ (k : Command). advanceAll seq (versionsIn w b) (k ∷ map commandOf (splitBy (part (68 + (i + 1)) (getD s 3 0 - (i + 1)) s) (argumentsAt (first + count) m p d₀)))
               (record { writes = ownWrites own (take (a .used) d) (a .rows); replies = g .replies })) (sym same-command)
-              ∙ (λ z. advanceAll seq (versionsIn w b) (map commandOf (splitBy (part (69 + (i + 1)) (getD s 4 0 - (i + 1)) s) (argumentsAt (first + count) m p d₀)))
+              ∙ (λ z. advanceAll seq (versionsIn w b) (map commandOf (splitBy (part (68 + (i + 1)) (getD s 3 0 - (i + 1)) s) (argumentsAt (first + count) m p d₀)))
               (record { writes = sym (x .writes) z; replies = g .replies ++ encode (e .0) }));
           follows = follows-more (g .follows) (x .adds) refl;
           same = x .same ∙ g .same;
           same-data = x .same-data ∙ g .same-data;
         }
 
-  pub word-in : {n : ℕ} → n ≡ getD s 4 0 → i < n → 69 + i < length s
+  pub word-in : {n : ℕ} → n ≡ getD s 3 0 → i < n → 68 + i < length s
   word-in e l = omega (arith, q .words, q .few)
 
-  pub walked-all : {start : Bytes} {n : ℕ} → n ≡ getD s 4 0 → n ≤ i → Puts (head 42 n) start put₀ out₀ → QueueRan (advanceAll seq (versionsIn w b) (commandsIn s p d₀) begun) (getD s 4 0) own₀ data₀ start own d out a
+  pub walked-all : {start : Bytes} {n : ℕ} → n ≡ getD s 3 0 → n ≤ i → Puts (head 42 n) start put₀ out₀ → QueueRan (advanceAll seq (versionsIn w b) (commandsIn s p d₀) begun) (getD s 3 0) own₀ data₀ start own d out a
   unfolding advanceAll splitBy
   walked-all {start} {n} n-is h u =
-      let none-left : part (69 + i) (getD s 4 0 - i) s ≡ [] = part-none s 69 (getD s 4 0) i (omega arith) in
+      let none-left : part (68 + i) (getD s 3 0 - i) s ≡ [] = part-none s 68 (getD s 3 0) i (omega arith) in
       let e : advanceAll seq (versionsIn w b) (commandsIn s p d₀) begun ≡ record { writes = ownWrites own (take (a .used) d) (a .rows); replies = g .replies } =
       g .is ∙ ap (λ (l : List ℕ). advanceAll seq (versionsIn w b) (map commandOf (splitBy l (argumentsAt first (total l) p d₀)))
       (record { writes = ownWrites own (take (a .used) d) (a .rows); replies = g .replies })) none-left in

@@ -28,7 +28,7 @@ pub record LaidOut (s : List ℕ) (sb d : Bytes) (p′ : List ℕ) (d′ : Bytes
 -- before the commands of the queue: no mark, no watched key has moved, and the reply buffer is cleared
 pub record ExecReady (s : List ℕ) (sb : Bytes) (w b : List ℕ) (out : Bytes) : Type 0 where
   pub held : Held s sb
-  pub positive : allPositive (part 69 (getD s 4 0) s) ≡ true
+  pub positive : allPositive (part 68 (getD s 3 0) s) ≡ true
   pub unmarked : getD s 1 0 ≡ 0
   pub unmoved : anyMoved (versionsIn w b) (sessionFrom s sb .watch) ≡ false
   pub valid : Valid w b

@@ -40,15 +40,15 @@ advanceAll s vs (c ∷ cs) p = advanceAll s vs cs (advance s vs c p)
 
 -- THE QUEUE of a session as the code walks it: its sizes, and the places of its arguments in the data in use
 pub record Queued (s p : List ℕ) (d : Bytes) : Type 0 where
-  pub words : length s ≡ 645
-  pub few : getD s 4 0 ≤ 64
-  pub few-arguments : total (part 69 (getD s 4 0) s) ≤ 512
-  pub positive : allPositive (part 69 (getD s 4 0) s) ≡ true
-  pub parts : PartsIn p d (total (part 69 (getD s 4 0) s))
+  pub words : length s ≡ 644
+  pub few : getD s 3 0 ≤ 64
+  pub few-arguments : total (part 68 (getD s 3 0) s) ≤ 512
+  pub positive : allPositive (part 68 (getD s 3 0) s) ≡ true
+  pub parts : PartsIn p d (total (part 68 (getD s 3 0) s))
 
 -- its commands
 unfoldable pub commandsIn : List ℕ → List ℕ → Bytes → List Command
-commandsIn s p d = map commandOf (splitBy (part 69 (getD s 4 0) s) (argumentsAt 0 (total (part 69 (getD s 4 0) s)) p d))
+commandsIn s p d = map commandOf (splitBy (part 68 (getD s 3 0) s) (argumentsAt 0 (total (part 68 (getD s 3 0) s)) p d))
 
 -- what running all of them leaves, by how far they have come
 pub record QueueRan (e : Progress) (count : ℕ) (own : List ℕ) (d out : Bytes) (own′ : List ℕ) (d′ out′ : Bytes) (r : Walked) : Type 0 where

@@ -17,14 +17,14 @@ pub fn lay_out(
     data: &mut [u8],
 ) -> usize
     requires { ⌜ Held (now «session_words») (now «session_bytes») ⌝ }
-    requires { ⌜ allPositive (part 69 (getD (now «session_words») 4 0) (now «session_words»)) ≡ true ⌝ }
+    requires { ⌜ allPositive (part 68 (getD (now «session_words») 3 0) (now «session_words»)) ≡ true ⌝ }
     requires { ⌜ 1024 ≤ length (now places) ⌝ }
     requires { ⌜ 11520 ≤ length (now «data») ⌝ }
     ensures { λ r. ⌜ LaidOut (now («session_words» .entry)) (now («session_bytes» .entry)) (now («data» .entry)) (now (places .exit)) (now («data» .exit)) r ⌝ }
 {
-    let queued = sessions::word(session_words, 4);
-    let count = sessions::sum_within(session_words, 69, queued, 512);
-    let sum = sessions::sum_within(session_words, 133, count, 8192);
+    let queued = sessions::word(session_words, 3);
+    let count = sessions::sum_within(session_words, 68, queued, 512);
+    let sum = sessions::sum_within(session_words, 132, count, 8192);
     let used = 2048 + sum;
     queue::expand(session_words, places, count);
     merge::put(data, 0, &session_bytes[..used]);

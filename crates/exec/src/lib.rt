@@ -3,4 +3,3 @@ pub mod answers;
 pub mod layout;
 pub mod queued;
 pub mod transaction;
-pub mod watched;

@@ -104,9 +104,9 @@ pub fn run_queue(
     requires { ⌜ Valid (now words) (now bytes) ⌝ }
     requires { ⌜ 2048 ≤ length (now own) ⌝ }
     requires { ⌜ used + 1280 ≤ length (now «data») ⌝ }
-    ensures { λ r. ⌜ QueueRan (advanceAll seq (versionsIn (now (words .entry)) (now (bytes .entry))) (commandsIn (now («session_words» .entry)) (now (places .entry)) (take used (now («data» .entry)))) begun) (getD (now («session_words» .entry)) 4 0) (now (own .entry)) (now («data» .entry)) (now (out .entry)) (now (own .exit)) (now («data» .exit)) (now (out .exit)) r ⌝ }
+    ensures { λ r. ⌜ QueueRan (advanceAll seq (versionsIn (now (words .entry)) (now (bytes .entry))) (commandsIn (now («session_words» .entry)) (now (places .entry)) (take used (now («data» .entry)))) begun) (getD (now («session_words» .entry)) 3 0) (now (own .entry)) (now («data» .entry)) (now (out .entry)) (now (own .exit)) (now («data» .exit)) (now (out .exit)) r ⌝ }
 {
-    let queued = sessions::word(session_words, 4);
+    let queued = sessions::word(session_words, 3);
     let mut at = Walked {
         rows: 0,
         used: used,
@@ -115,7 +115,7 @@ pub fn run_queue(
     let mut first = 0;
     let mut i = 0;
     while i < queued {
-        let count = sessions::word(session_words, 69 + i);
+        let count = sessions::word(session_words, 68 + i);
         let start = 2 * first;
         let end = start + 2 * count;
         at = run_queued(

@@ -1,7 +1,6 @@
 // EXEC of one session.
 use crate::layout;
 use crate::queued;
-use crate::watched;
 use encode::reply;
 use server::Answer;
 use server::Fixed;
@@ -109,7 +108,7 @@ pub fn exec(
         let put = errors::put_fixed(out, Fixed::ExecAbort);
         return conclude::close(session_words, put, used);
     }
-    if watched::watched_moved(session_words, session_bytes, words, bytes) {
+    if watch::watched_moved(session_words, session_bytes, words, bytes) {
         let put = reply::put_nil_array(out);
         return conclude::close(session_words, put, used);
     }

@@ -9,7 +9,7 @@ use Rattle.calls.specs.Calls.{lentOf, OpenPromise}
 use Rattle.calls.proofs.MadeLaws.{made}
 use Rattle.console.specs.Steps.{Fit}
 
-fit-beside : (n m k : ℕ) {last versions size r : ℕ} {w w′ : List ℕ} {b b′ : Bytes} → 16 * 645 ≤ n → 16 * 10240 ≤ m → r ≡ 0 → OpenPromise last versions size w b r w′ b′
+fit-beside : (n m k : ℕ) {last versions size r : ℕ} {w w′ : List ℕ} {b b′ : Bytes} → 16 * 644 ≤ n → 16 * 10240 ≤ m → r ≡ 0 → OpenPromise last versions size w b r w′ b′
     → Fit (lentOf w′ b′ (replicate n 0) (replicate m 0)) (replicate k 0)
 fit-beside n m k {last} {versions} {size} {r} {w} {w′} {b} {b′} words bytes e p = record {
   fit = made .opens last versions size w b w′ b′ n m words bytes (rw e at p) .fit;
@@ -17,5 +17,5 @@ fit-beside n m k {last} {versions} {size} {r} {w} {w′} {b} {b′} words bytes 
 }
 
 pub opened-fit : {last versions size r : ℕ} {w w′ : List ℕ} {b b′ : Bytes} → r ≡ 0 → OpenPromise last versions size w b r w′ b′
-    → Fit (lentOf w′ b′ (replicate 10320 0) (replicate 163840 0)) (replicate 32768 0)
-opened-fit = fit-beside 10320 163840 32768 (omega arith) (omega arith)
+    → Fit (lentOf w′ b′ (replicate 10304 0) (replicate 163840 0)) (replicate 32768 0)
+opened-fit = fit-beside 10304 163840 32768 (omega arith) (omega arith)

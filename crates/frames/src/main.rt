@@ -30,7 +30,7 @@ const STORE_WORDS: usize = 4101;
 
 const STORE_BYTES: usize = 32768;
 
-const SESSION_WORDS: usize = 10320;
+const SESSION_WORDS: usize = 10304;
 
 const SESSION_BYTES: usize = 163840;
 

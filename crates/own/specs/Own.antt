@@ -33,6 +33,6 @@ abbrev pub OwnFound : List ℕ → Bytes → ℕ → Key → Found → Type 0
 OwnFound own d n k (At j) = OwnAt own d n k j
 OwnFound own d n k Nothing = find (ownWrites own d n) k ≡ none
 
--- what EXEC reads: its own writes over the store at its sequence
+-- what EXEC reads: its own writes over the store at a sequence
 unfoldable pub readerOf : List ℕ → Bytes → ℕ → List ℕ → Bytes → ℕ → Reader
 readerOf own d n w b s = over (ownWrites own d n) (readAt s (versionsIn w b))

@@ -33,15 +33,15 @@ pub fn takes(words: &[u64], places: &[u64], count: usize) -> bool
     requires { ⌜ 2 * count ≤ length (now places) ⌝ }
     ensures { λ r. ⌜ Takes (now (words .entry)) (now (places .entry)) count r ⌝ }
 {
-    let queued = sessions::word(words, 4);
+    let queued = sessions::word(words, 3);
     if 64 <= queued {
         return false;
     }
-    let arguments = sessions::sum_within(words, 69, queued, 512);
+    let arguments = sessions::sum_within(words, 68, queued, 512);
     if 512 - arguments < count {
         return false;
     }
-    let used = sessions::sum_within(words, 133, arguments, 8192);
+    let used = sessions::sum_within(words, 132, arguments, 8192);
     let left = 8192 - used;
     lengths_within(places, count, left) <= left
 }
@@ -83,24 +83,24 @@ pub fn append(words: &mut [u64], bytes: &mut [u8], input: &[u8], places: &[u64],
     requires { ⌜ HasRoom (now words) (now places) count ⌝ }
     ensures { λ _. ⌜ Appended (now (words .entry)) (now (words .exit)) (now (bytes .entry)) (now (bytes .exit)) (argumentsAt 0 count (now (places .entry)) (now (input .entry))) ⌝ }
 {
-    let queued = sessions::word(words, 4);
-    let arguments = sessions::sum_within(words, 69, queued, 512);
-    let used = sessions::sum_within(words, 133, arguments, 8192);
-    put_lengths(words, 133 + arguments, places, count);
+    let queued = sessions::word(words, 3);
+    let arguments = sessions::sum_within(words, 68, queued, 512);
+    let used = sessions::sum_within(words, 132, arguments, 8192);
+    put_lengths(words, 132 + arguments, places, count);
     put_arguments(bytes, 2048 + used, input, places, count);
-    words[69 + queued] = count as u64;
-    words[4] = (queued + 1) as u64;
+    words[68 + queued] = count as u64;
+    words[3] = (queued + 1) as u64;
 }
 
 // Writes the places of the first `count` queued arguments in the session's bytes into a table.
 pub fn expand(words: &[u64], places: &mut [u64], count: usize)
     requires { ⌜ Expandable (now words) (now places) count ⌝ }
-    ensures { λ _. ⌜ now (places .exit) ≡ putAt 0 (placesOf 2048 (part 133 count (now (words .entry)))) (now (places .entry)) ⌝ }
+    ensures { λ _. ⌜ now (places .exit) ≡ putAt 0 (placesOf 2048 (part 132 count (now (words .entry)))) (now (places .entry)) ⌝ }
 {
     let mut start = 2048;
     let mut i = 0;
     while i < count {
-        let len = sessions::word(words, 133 + i);
+        let len = sessions::word(words, 132 + i);
         let at = 2 * i;
         places[at] = start as u64;
         places[at + 1] = len as u64;

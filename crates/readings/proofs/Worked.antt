@@ -1,14 +1,17 @@
 -- Worked calls, computed: what posting makes of seven of them, and answers that no refusal, fixed reply or invented count gives.
 use Prim.Native.Nat.{ℕ}
-use mathlib.Core.List.{List, [], _∷_, map}
-use mathlib.Core.Bool.{Bool, false}
-use lib.Dec.{T}
+use Prim.Native.String.{String}
+use mathlib.Core.List.{List, [], _∷_, _++_, map}
+use mathlib.Core.Bool.{Bool, false, not}
+use lib.Dec.{T, eqb}
+use lib.ListN.{replicate}
 use Rattle.key.specs.Bytes.{bytes, sameBytes}
-use Rattle.calls.specs.Calls.{Lent, Call, request, grouped}
+use Rattle.server.specs.Sessions.{sessionOk}
+use Rattle.calls.specs.Calls.{Lent, open-call, request-call, Call, request, grouped}
 use Rattle.calls.specs.Posting.{Item, alone, listed, exec, member}
 use Rattle.calls.specs.Demand3.{itemsOf}
 use Rattle.calls.specs.Opens.{calls-opens}
-use Rattle.readings.specs.Readings.{opened, line, after, answerTo, first, gives, replies, every}
+use Rattle.readings.specs.Readings.{opened, Line, line, after, answerTo, first, gives, replies, every}
 
 abbrev kindOf : Item → ℕ
 kindOf (alone c b) = 1
@@ -48,18 +51,6 @@ kSet = after (line 0 "SET k 1" ∷ []) opened
 unfoldable queued : Lent
 queued = after (line 0 "MULTI" ∷ line 0 "SET k 2" ∷ line 0 "GET k" ∷ []) opened
 
--- b written between WATCH a and WATCH b, then GET b queued
-unfoldable watchedApart : Lent
-watchedApart = after (line 0 "WATCH a" ∷ line 1 "SET b 1" ∷ line 0 "WATCH b" ∷ line 0 "MULTI" ∷ line 0 "GET b" ∷ []) opened
-
--- a written between two WATCHes of it
-unfoldable watchedTwice : Lent
-watchedTwice = after (line 0 "WATCH a" ∷ line 1 "SET a 1" ∷ line 0 "WATCH a" ∷ line 0 "MULTI" ∷ []) opened
-
--- b written since WATCH a, then INCR b and EXISTS b queued
-unfoldable writtenOnly : Lent
-writtenOnly = after (line 0 "WATCH a" ∷ line 0 "MULTI" ∷ line 0 "INCR b" ∷ line 0 "EXISTS b" ∷ line 1 "SET b 4" ∷ []) opened
-
 unfoldable answers : List Bool
 answers =
     -- a request uses its own bytes, and leaves those behind it
@@ -72,14 +63,64 @@ answers =
     ∷ replies (answerTo (line 0 "DEL k a") kSet) ":1\r\n"
     -- an accepted EXEC
     ∷ replies (answerTo (line 0 "EXEC") queued) "*2\r\n+OK\r\n$1\r\n2\r\n"
-    -- changes count from the WATCH of that key, and EXEC reads the table as it stands
-    ∷ replies (answerTo (line 0 "EXEC") watchedApart) "*1\r\n$1\r\n1\r\n"
-    -- a repeated WATCH keeps the first sequence
-    ∷ replies (answerTo (line 0 "EXEC") watchedTwice) "*-1\r\n"
-    -- a key merely written or checked causes no conflict
-    ∷ replies (answerTo (line 0 "EXEC") writtenOnly) "*2\r\n:5\r\n:1\r\n"
     ∷ []
 
 worked-answers : T (every answers)
-unfolding calls-opens answers every after kSet queued watchedApart watchedTwice writtenOnly
+unfolding calls-opens answers every after kSet queued
 worked-answers = tt
+
+-- A WATCH FOR EACH KEY (document 02, R-7). What EXEC of session 0 answers after these lines
+abbrev execAfter : List Line → String → Bool
+execAfter lines = replies (answerTo (line 0 "EXEC") (after lines opened))
+
+-- a store with room for one version
+abbrev narrow : Lent
+narrow =
+    let o = open-call 0 1 200 (replicate 9 0) (replicate 200 0) in
+    record { words = o .words; bytes = o .bytes; sessionWords = opened .sessionWords; sessionBytes = opened .sessionBytes }
+
+-- b queued after a, which is watched or not, took the one version
+abbrev spentAfter : List Line → Lent
+spentAfter before = after (before ++ line 1 "SET a 1" ∷ line 0 "MULTI" ∷ line 0 "SET b 1" ∷ []) narrow
+
+-- WATCH a with 4 reply bytes, which returns 3
+abbrev watchCut : Lent
+watchCut = request-call 0 (bytes "WATCH a\r\n") 8 4 opened .lent
+
+-- a lent session whose first `count` keys are watched, the key `a` from this sequence on, in a store whose last is 5
+abbrev watchesFrom : ℕ → ℕ → Bool
+watchesFrom count seq =
+    sessionOk 5 (0 ∷ 0 ∷ count ∷ 0 ∷ (1 ∷ replicate 31 0) ++ (seq ∷ replicate 31 0) ++ replicate 576 0) (bytes "a" ++ replicate 10239 0)
+
+unfoldable watching : List Bool
+watching =
+    -- a key watched again keeps its first sequence
+    execAfter (line 0 "WATCH a" ∷ line 1 "SET a 1" ∷ line 0 "WATCH a" ∷ line 0 "MULTI" ∷ []) "*-1\r\n"
+    -- a key watched later counts from then; EXEC reads the table as it stands
+    ∷ execAfter (line 0 "WATCH a" ∷ line 1 "SET b 1" ∷ line 0 "WATCH b" ∷ line 0 "MULTI" ∷ line 0 "GET b" ∷ []) "*1\r\n$1\r\n1\r\n"
+    -- a dropped watch is none
+    ∷ execAfter (line 0 "WATCH a" ∷ line 1 "SET a 1" ∷ line 0 "UNWATCH" ∷ line 0 "WATCH a" ∷ line 0 "MULTI" ∷ []) "*0\r\n"
+    -- so is one whose reply does not fit
+    ∷ replies (answerTo (line 0 "EXEC") (after (line 1 "SET a 1" ∷ line 0 "MULTI" ∷ []) watchCut)) "*0\r\n"
+    -- EXEC without MULTI drops nothing
+    ∷ execAfter (line 0 "WATCH a" ∷ line 0 "EXEC" ∷ line 0 "SET a 1" ∷ line 0 "MULTI" ∷ []) "*-1\r\n"
+    -- one's own write: none inside EXEC, one outside it
+    ∷ execAfter (line 0 "WATCH a" ∷ line 0 "MULTI" ∷ line 0 "SET a 1" ∷ line 0 "SET a 2" ∷ []) "*2\r\n+OK\r\n+OK\r\n"
+    ∷ execAfter (line 0 "WATCH a" ∷ line 0 "SET a 1" ∷ line 0 "MULTI" ∷ []) "*-1\r\n"
+    -- the same value again, and a tombstone for an absent key
+    ∷ execAfter (line 0 "SET a 1" ∷ line 0 "WATCH a" ∷ line 1 "SET a 1" ∷ line 0 "MULTI" ∷ []) "*-1\r\n"
+    ∷ execAfter (line 0 "WATCH a" ∷ line 1 "DEL a" ∷ line 0 "MULTI" ∷ []) "*-1\r\n"
+    -- a key merely written, counted or read causes no conflict
+    ∷ execAfter (line 0 "WATCH a" ∷ line 0 "MULTI" ∷ line 0 "INCR n" ∷ line 0 "EXISTS n" ∷ line 1 "INCR n" ∷ []) "*2\r\n:2\r\n:1\r\n"
+    -- conflict comes before 6
+    ∷ replies (answerTo (line 0 "EXEC") (spentAfter (line 0 "WATCH a" ∷ []))) "*-1\r\n"
+    ∷ eqb (answerTo (line 0 "EXEC") (spentAfter []) .number) 6
+    -- 9: the sequence of a watched key above the last; one behind the watched keys is none
+    ∷ not (watchesFrom 1 6)
+    ∷ watchesFrom 1 5
+    ∷ watchesFrom 0 6
+    ∷ []
+
+watching-holds : T (every watching)
+unfolding calls-opens watching every after
+watching-holds = tt

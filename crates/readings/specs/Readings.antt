@@ -22,7 +22,7 @@ use Rattle.calls.specs.Opens.{calls-opens}
 abbrev pub opened : Lent
 opened =
     let o = open-call 0 20 200 (replicate 85 0) (replicate 200 0) in
-    record { words = o .words; bytes = o .bytes; sessionWords = replicate 10320 0; sessionBytes = replicate 163840 0 }
+    record { words = o .words; bytes = o .bytes; sessionWords = replicate 10304 0; sessionBytes = replicate 163840 0 }
 
 -- a line that a session sends
 pub record Line : Type 0 where

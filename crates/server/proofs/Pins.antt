@@ -1,4 +1,5 @@
--- What the answers are, pinned apart from their definitions: a long reply leaves all, DEL counts the live keys, EXEC and a command that are accepted say so.
+-- What the answers are, pinned apart from their definitions: a long reply leaves all, DEL counts the live keys, a watched key carries its first sequence, EXEC and a
+-- command that are accepted say so.
 use Prim.Native.Nat.{ℕ, _+_}
 use native.Mathlib.Omega.{arith}
 use mathlib.Core.Bool.{Bool, true, false, cond}
@@ -11,13 +12,16 @@ use lib.ListN.{length}
 use Rattle.key.specs.Bytes.{Bytes}
 use Rattle.key.specs.Keys.{Key}
 use Rattle.resp.specs.Reply.{Integer, array}
-use Rattle.memtable.specs.Table.{Value, Reader}
+use Rattle.memtable.specs.Table.{Value, Reader, find}
 use Rattle.memtable.specs.Versions.{Store, commit}
 use Rattle.batch.specs.declared.Verdict.the-variants.{Accepted}
+use Rattle.batch.specs.Group.{among}
 use Rattle.server.specs.Names.{Args}
 use Rattle.server.specs.Command.{DEL, EXISTS, Effect, tombstone, liveOne, live, run}
-use Rattle.server.specs.Session.{Session, clear, Done, says, returns, marked, committed, queueFits, queuedReply, enqueue, verdictExec, execute}
+use Rattle.server.specs.Session.{watchedKeys, Session, clear, Done, says, returns, marked, committed, addKeys, watchFits, watching, queueFits, queuedReply, enqueue, verdictExec, execute}
+use Rattle.server.specs.Sessions.{ascending}
 use Rattle.server.specs.Finish.{silent, fitted}
+use Rattle.server.proofs.WatchLaws.{carried, adds-carry}
 use Rattle.server.proofs.SessionLaws.{ranBy, writesBy, ends, execute-ends}
 
 -- 3 leaves all
@@ -58,6 +62,12 @@ del-counts r ks = ap {B = Effect} (λ (n : ℕ). (Integer (pos n), map tombstone
 pub exists-counts : (r : Reader) (ks : List Key) → run r (EXISTS ks) ≡ (Integer (pos (length (livingOf r ks))), [])
 unfolding run
 exists-counts r ks = ap {B = Effect} (λ (n : ℕ). (Integer (pos n), [])) (living-count r ks)
+
+-- WATCH: a key that is watched keeps its sequence, and one that is not gets the last sequence
+pub watch-carries : (ks : List Key) (st : Store) (s : Session) → ascending (watchedKeys (s .watch)) ≡ true → watchFits (watchedKeys (addKeys (st .last) ks (s .watch))) ≡ true
+    → (k : Key) → find (watching ks st s .session .watch) k ≡ carried (st .last) (find (s .watch) k) (among ks k)
+unfolding watching
+watch-carries ks st s o f k = rw f (adds-carry (st .last) ks (s .watch) o k)
 
 -- an accepted command answers and writes: no space is reported as spent
 pub accepted-says : (e : Effect) (st : Store) (s : Session) → committed Accepted e st s ≡ says (e .0) (commit (e .1) st) s

@@ -213,9 +213,9 @@ module _ (last i : ℕ) (sw : List ℕ) (sb : Bytes) (ok : validSessions last sw
   words-same : leaveSessionWords i (sessionAt i sw sb) sw sb ≡ sw
   unfolding leaveSessionWords sessionAt
   words-same =
-      let e : suc i * 645 ≡ i * 645 + 645 = suc-mul i 645 in
-      ap (λ (x : List ℕ). take (i * 645) sw ++ (x ++ drop (suc i * 645) sw)) (words-kept (session-held last sw sb ok i h))
-      ∙ ap (λ (m : ℕ). take (i * 645) sw ++ (wordsOfSession i sw ++ drop m sw)) e ∙ (unfold wordsOfSession in rejoined (i * 645) 645 sw)
+      let e : suc i * 644 ≡ i * 644 + 644 = suc-mul i 644 in
+      ap (λ (x : List ℕ). take (i * 644) sw ++ (x ++ drop (suc i * 644) sw)) (words-kept (session-held last sw sb ok i h))
+      ∙ ap (λ (m : ℕ). take (i * 644) sw ++ (wordsOfSession i sw ++ drop m sw)) e ∙ (unfold wordsOfSession in rejoined (i * 644) 644 sw)
 
   bytes-same : leaveSessionBytes i (sessionAt i sw sb) sb ≡ sb
   unfolding leaveSessionBytes sessionAt
@@ -276,13 +276,13 @@ module _ (i : ℕ) (w : List ℕ) (b : Bytes) (sw : List ℕ) (sb out : Bytes) (
   all : Sixteen (lastWord w) sw sb
   all = sixteen (lastWord w) sw sb (sessions-ok i w b sw sb (h .below) (h .fit))
 
-  pub session-words : i * 645 + 645 ≤ length sw
+  pub session-words : i * 644 + 644 ≤ length sw
   session-words = omega (arith, all .words, h .below)
 
   pub session-bytes : i * 10240 + 10240 ≤ length sb
   session-bytes = omega (arith, all .bytes, h .below)
 
-  pub session-lent : Ready w b (lentAt 645 i sw) (lentAt 10240 i sb) out
+  pub session-lent : Ready w b (lentAt 644 i sw) (lentAt 10240 i sb) out
   session-lent = record {
     valid = validated w b refl (store-ok i w b sw sb (h .below) (h .fit));
     one = record {
@@ -295,16 +295,16 @@ module _ (i : ℕ) (w : List ℕ) (b : Bytes) (sw : List ℕ) (sb out : Bytes) (
 
   -- THE PROMISE of the request call
   pub session-served : (input : Bytes) (places : ℕ) {r : Answer} {out′ : Bytes} {w′ : List ℕ} {b′ : Bytes} {s₁ : List ℕ} {sb₁ : Bytes}
-      → Left (servedIn places (length out) input w b (lentAt 645 i sw) (lentAt 10240 i sb)) out w b (lentAt 645 i sw) (lentAt 10240 i sb) r out′ w′ b′ s₁ sb₁
-      → RequestPromise i input places out (lentOf w b sw sb) r out′ (lentOf w′ b′ (backAt 645 i sw s₁) (backAt 10240 i sb sb₁))
+      → Left (servedIn places (length out) input w b (lentAt 644 i sw) (lentAt 10240 i sb)) out w b (lentAt 644 i sw) (lentAt 10240 i sb) r out′ w′ b′ s₁ sb₁
+      → RequestPromise i input places out (lentOf w b sw sb) r out′ (lentOf w′ b′ (backAt 644 i sw s₁) (backAt 10240 i sb sb₁))
   unfolding leaveStore leaveSession
   session-served input places {r} {out′} {w′} {b′} {s₁} {sb₁} l =
       let d : Served = serve places (length out) input (storeIn w b) (sessionAt i sw sb) in
-      let same : servedIn places (length out) input w b (lentAt 645 i sw) (lentAt 10240 i sb) ≡ d =
+      let same : servedIn places (length out) input w b (lentAt 644 i sw) (lentAt 10240 i sb) ≡ d =
       unfold servedIn in ap (serve places (length out) input (storeIn w b)) (lent-session i sw sb) in
       let m = left-as same l in
       let c = sym (served i input places (length out) (lentOf w b sw sb) (lt-ltb i 16 (h .below)) (h .fit)) in
-      let left : lentOf w′ b′ (backAt 645 i sw s₁) (backAt 10240 i sb sb₁) ≡ leaveStore (d .store) (leaveSession i (d .session) (lentOf w b sw sb)) =
+      let left : lentOf w′ b′ (backAt 644 i sw s₁) (backAt 10240 i sb sb₁) ≡ leaveStore (d .store) (leaveSession i (d .session) (lentOf w b sw sb)) =
       λ z. record { words = m .store .words z; bytes = m .store .bytes z; sessionWords = words-back i sw sb (m .session) z; sessionBytes = bytes-back i sw sb (m .session) z } in
       record {
         answer = m .says .answer ∙ ap (λ (x : Called). answerOf (x .outcome)) c;

@@ -16,7 +16,7 @@ ghost use Rattle.serving.specs.Serving.{FaultLeft, wholeServed, servedIn
 
 // The reply to a protocol error, which uses all bytes and clears the session.
 fn answer_fault(input: &[u8], fault: Fault, swords: &mut [u64], out: &mut [u8]) -> Answer
-    requires { ⌜ length (now swords) ≡ 645 ⌝ }
+    requires { ⌜ length (now swords) ≡ 644 ⌝ }
     ensures { λ r. ⌜ FaultLeft (now (input .entry)) fault (now (swords .entry)) (now (out .entry)) r (now (swords .exit)) (now (out .exit)) ⌝ }
 {
     let put = refusal::put_fault(out, input, fault);
@@ -106,8 +106,8 @@ pub fn serve_session(
     ensures { λ r. ⌜ RequestPromise session (now (input .entry)) (length (now (places .entry)) / 2) (now (out .entry)) (lentOf (now (words .entry)) (now (bytes .entry)) (now (swords .entry)) (now (sbytes .entry))) r (now (out .exit)) (lentOf (now (words .exit)) (now (bytes .exit)) (now (swords .exit)) (now (sbytes .exit))) ⌝ }
     ensures { λ _. ⌜ TablePromise session (now (input .entry)) (lentOf (now (words .entry)) (now (bytes .entry)) (now (swords .entry)) (now (sbytes .entry))) (now (places .entry)) (now (places .exit)) ⌝ }
 {
-    let from = session * 645;
-    let to = from + 645;
+    let from = session * 644;
+    let to = from + 644;
     let start = session * 10240;
     let end = start + 10240;
     serve(

@@ -1,4 +1,4 @@
--- Session i among the sixteen: what a callee is lent by `&mut words[at..end]` with at = i * 645 and end = at + 645, and all words
+-- Session i among the sixteen: what a callee is lent by `&mut words[at..end]` with at = i * 644 and end = at + 644, and all words
 -- with what it left in their place; the same for the bytes. Assumes nothing.
 use Prim.Native.Nat.{ℕ, suc, _+_, _-_, _*_, _<_}
 use native.Mathlib.Nat.{suc-mul}
@@ -29,27 +29,27 @@ put-back size i l x =
     ap (λ (m : ℕ). putMid (i * size) m l x) n ∙ ap (λ (y : List ℕ). take (i * size) l ++ (x ++ y)) (drop-drop size (i * size) l ∙ ap (λ (m : ℕ). drop m l) e)
 
 module _ (i : ℕ) (w : List ℕ) (b : Bytes) where
-  pub lent-words : lentAt 645 i w ≡ wordsOfSession i w
+  pub lent-words : lentAt 644 i w ≡ wordsOfSession i w
   unfolding wordsOfSession
-  lent-words = let e : i * 645 + 645 - i * 645 ≡ 645 = omega arith in ap (λ (n : ℕ). midOf (i * 645) n w) e
+  lent-words = let e : i * 644 + 644 - i * 644 ≡ 644 = omega arith in ap (λ (n : ℕ). midOf (i * 644) n w) e
 
   pub lent-bytes : lentAt 10240 i b ≡ bytesOfSession i b
   unfolding bytesOfSession
   lent-bytes = let e : i * 10240 + 10240 - i * 10240 ≡ 10240 = omega arith in ap (λ (n : ℕ). midOf (i * 10240) n b) e
 
-  pub lent-session : sessionFrom (lentAt 645 i w) (lentAt 10240 i b) ≡ sessionAt i w b
+  pub lent-session : sessionFrom (lentAt 644 i w) (lentAt 10240 i b) ≡ sessionAt i w b
   unfolding sessionAt
   lent-session = λ z. sessionFrom (lent-words z) (lent-bytes z)
 
-  pub lent-held : (last : ℕ) → validSessions last w b ≡ true → i < 16 → Held (lentAt 645 i w) (lentAt 10240 i b)
+  pub lent-held : (last : ℕ) → validSessions last w b ≡ true → i < 16 → Held (lentAt 644 i w) (lentAt 10240 i b)
   lent-held last e h = coe 1 0 (z. Held (lent-words z) (lent-bytes z)) (session-held last w b e i h)
 
-  module _ {d : Served} {w₁ : List ℕ} {b₁ : Bytes} (left : SessionLeft d (lentAt 645 i w) (lentAt 10240 i b) w₁ b₁) where
-    pub words-back : backAt 645 i w w₁ ≡ leaveSessionWords i (d .session) w b
+  module _ {d : Served} {w₁ : List ℕ} {b₁ : Bytes} (left : SessionLeft d (lentAt 644 i w) (lentAt 10240 i b) w₁ b₁) where
+    pub words-back : backAt 644 i w w₁ ≡ leaveSessionWords i (d .session) w b
     unfolding leaveSessionWords
     words-back =
         let e : w₁ ≡ sessionWords (d .session) (wordsOfSession i w) (bytesOfSession i b) = left .words ∙ (λ z. sessionWords (d .session) (lent-words z) (lent-bytes z)) in
-        put-back 645 i w w₁ ∙ ap (λ (x : List ℕ). take (i * 645) w ++ (x ++ drop (suc i * 645) w)) e
+        put-back 644 i w w₁ ∙ ap (λ (x : List ℕ). take (i * 644) w ++ (x ++ drop (suc i * 644) w)) e
 
     pub bytes-back : backAt 10240 i b b₁ ≡ leaveSessionBytes i (d .session) b
     unfolding leaveSessionBytes

@@ -72,16 +72,16 @@ module _ {w : List ℕ} {b : Bytes} (h : Held w b) {lens seqs : List ℕ} {text 
 
 -- from what adding the keys gave
 module _ {w : List ℕ} {b : Bytes} (h : Held w b) (ks : List Key) (last : ℕ) {used : ℕ} {out : Bytes} (z : Cleared out) (lens seqs : List ℕ) (text : Bytes) {grows : Grown}
-    (g : GrownTo (addKeys last ks (sessionFrom w b .watch)) (part 5 32 w) lens (part 37 32 w) seqs (part 0 2048 b) text grows) where
+    (g : GrownTo (addKeys last ks (sessionFrom w b .watch)) (part 4 32 w) lens (part 36 32 w) seqs (part 0 2048 b) text grows) where
   pub watch-refused : {r : Answer} → grows ≡ grown.Full → r ≡ refusal 5 → Answered (watchingAt ks last) w w b b used out r out
   watch-refused {r} e r-is =
-      let none-fit = grown-full (addKeys last ks (sessionFrom w b .watch)) (part 5 32 w) lens (part 37 32 w) seqs (part 0 2048 b) text g e in
+      let none-fit = grown-full (addKeys last ks (sessionFrom w b .watch)) (part 4 32 w) lens (part 36 32 w) seqs (part 0 2048 b) text g e in
       subst (λ (x : Answer). Answered (watchingAt ks last) w w b b used out x out) (sym r-is)
       (answered-number h (watchingAt ks last) used z 5 (sessionFrom w b) (λ st. no-room ks last st (sessionFrom w b) none-fit) (sym (words-kept h)) (sym (bytes-kept h)))
 
   pub watch-kept : {n u : ℕ} {w′ : List ℕ} {b′ : Bytes} {r : Answer} {out′ : Bytes} → grows ≡ grown.To n u → Keeps lens seqs text n w w′ b b′ used out r out′
       → Answered (watchingAt ks last) w w′ b b′ used out r out′
-  watch-kept {n} {u} e k = k .is ks last u (grown-holding (addKeys last ks (sessionFrom w b .watch)) (part 5 32 w) lens (part 37 32 w) seqs (part 0 2048 b) text g e)
+  watch-kept {n} {u} e k = k .is ks last u (grown-holding (addKeys last ks (sessionFrom w b .watch)) (part 4 32 w) lens (part 36 32 w) seqs (part 0 2048 b) text g e)
 
 -- THE ARGUMENT COUNT
 module _ {word : Bytes} {row : ℕ} (l : Looked word row) (count : ℕ) (places : List ℕ) (input : Bytes) {right : Bool} (e : right ≡ countRight (rowAt row) (count - 1)) where

@@ -80,7 +80,7 @@ routeDone Run r a st s = direct (executedOf a) st s
 
 -- what a step asks of the session's words: MULTI is opened outside of it
 pub record Steerable (step : Step) (w : List ℕ) : Type 0 where
-  pub words : length w ≡ 645
+  pub words : length w ≡ 644
   pub outside : step ≡ Open → getD w 0 0 ≡ 0
 
 -- and a way: MULTI is opened outside of it, and a command is queued inside

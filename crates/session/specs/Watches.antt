@@ -10,7 +10,7 @@ use Rattle.server.specs.Watch.{Holding}
 use Rattle.session.specs.Answers.{Answered}
 use Rattle.session.specs.Routes.{watchingAt}
 
--- whatever keys these are, and from whatever sequence on, with which working memory holds the watched ones
+-- for any keys and sequence: if working memory holds the watch with these keys added from that sequence on, WATCH of them is answered
 pub record Keeps (lens seqs : List ℕ) (text : Bytes) (count : ℕ) (w w′ : List ℕ) (b b′ : Bytes) (used : ℕ) (out : Bytes) (r : Answer) (out′ : Bytes) : Type 0 where
-  pub is : (ks : List Key) (last size : ℕ) → Holding (addKeys last ks (sessionFrom w b .watch)) (part 5 32 w) lens (part 37 32 w) seqs (part 0 2048 b) text count size
+  pub is : (ks : List Key) (last size : ℕ) → Holding (addKeys last ks (sessionFrom w b .watch)) (part 4 32 w) lens (part 36 32 w) seqs (part 0 2048 b) text count size
       → Answered (watchingAt ks last) w w′ b b′ used out r out′

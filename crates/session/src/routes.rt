@@ -67,7 +67,7 @@ fn inside(control: Control, queueable: bool) -> Route
 
 // The route of a request, by the session's words and the row of its name.
 pub fn route_of(words: &[u64], row: usize) -> Route
-    requires { ⌜ (length (now words) ≡ 645) × (row < 22) ⌝ }
+    requires { ⌜ (length (now words) ≡ 644) × (row < 22) ⌝ }
     ensures { λ r. ⌜ r ≡ routeBy (yes? (getD (now (words .entry)) 0 0)) (controlOf (rowAt row .name)) (rowAt row .queueable) ⌝ }
 {
     let control = names::control_at(row);

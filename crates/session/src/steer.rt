@@ -15,7 +15,7 @@ ghost use Rattle.session.specs.Routes.{stepDone, Steerable};
 
 // MULTI outside MULTI: an empty queue, and no mark.
 fn open(words: &mut [u64], out: &mut [u8], used: usize) -> Answer
-    requires { ⌜ (length (now words) ≡ 645) × (getD (now words) 0 0 ≡ 0) ⌝ }
+    requires { ⌜ (length (now words) ≡ 644) × (getD (now words) 0 0 ≡ 0) ⌝ }
     requires { ⌜ now out ≡ replicate (length (now out)) 0 ⌝ }
     ensures { λ r. ⌜ Steered (changing (fixedReply fixed.Ok) opened) (now (words .entry)) (now (words .exit)) used (now (out .entry)) r (now (out .exit)) ⌝ }
 {
@@ -33,7 +33,7 @@ fn open(words: &mut [u64], out: &mut [u8], used: usize) -> Answer
 
 // UNWATCH outside MULTI.
 fn unwatch(words: &mut [u64], out: &mut [u8], used: usize) -> Answer
-    requires { ⌜ length (now words) ≡ 645 ⌝ }
+    requires { ⌜ length (now words) ≡ 644 ⌝ }
     requires { ⌜ now out ≡ replicate (length (now out)) 0 ⌝ }
     ensures { λ r. ⌜ Steered (changing (fixedReply fixed.Ok) unwatched) (now (words .entry)) (now (words .exit)) used (now (out .entry)) r (now (out .exit)) ⌝ }
 {
@@ -51,7 +51,7 @@ fn unwatch(words: &mut [u64], out: &mut [u8], used: usize) -> Answer
 
 // QUIT, and DISCARD inside MULTI: queue, watch and mark are dropped.
 fn clear(words: &mut [u64], out: &mut [u8], used: usize) -> Answer
-    requires { ⌜ length (now words) ≡ 645 ⌝ }
+    requires { ⌜ length (now words) ≡ 644 ⌝ }
     requires { ⌜ now out ≡ replicate (length (now out)) 0 ⌝ }
     ensures { λ r. ⌜ Steered (changing (fixedReply fixed.Ok) cleared) (now (words .entry)) (now (words .exit)) used (now (out .entry)) r (now (out .exit)) ⌝ }
 {
@@ -69,7 +69,7 @@ fn clear(words: &mut [u64], out: &mut [u8], used: usize) -> Answer
 
 // Inside MULTI, a name that may not be queued: the error marks the session failed.
 pub fn not_queueable(words: &mut [u64], word: &[u8], out: &mut [u8], used: usize) -> Answer
-    requires { ⌜ length (now words) ≡ 645 ⌝ }
+    requires { ⌜ length (now words) ≡ 644 ⌝ }
     requires { ⌜ now out ≡ replicate (length (now out)) 0 ⌝ }
     ensures { λ r. ⌜ Steered (changing (notQueueable (now (word .entry))) marked) (now (words .entry)) (now (words .exit)) used (now (out .entry)) r (now (out .exit)) ⌝ }
 {

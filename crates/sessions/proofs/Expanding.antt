@@ -30,9 +30,9 @@ places-snoc start (k ∷ ns) n =
     ap (λ (l : List ℕ). start ∷ k ∷ l) (places-snoc (start + k) ns n ∙ ap (λ (m : ℕ). placesOf (start + k) ns ++ m ∷ n ∷ []) (add-assoc start k (total ns)))
 
 -- the lengths of one argument more
-part-snoc : (w : List ℕ) (i : ℕ) → 133 + i < length w → part 133 (i + 1) w ≡ part 133 i w ++ getD w (133 + i) 0 ∷ []
+part-snoc : (w : List ℕ) (i : ℕ) → 132 + i < length w → part 132 (i + 1) w ≡ part 132 i w ++ getD w (132 + i) 0 ∷ []
 part-snoc w i h =
-    ap (λ (n : ℕ). part 133 n w) (add-one i) ∙ take-suc (drop 133 w) i 0 (rw length-drop (omega arith)) ∙ ap (λ (n : ℕ). part 133 i w ++ n ∷ []) (getD-drop 133 w i 0)
+    ap (λ (n : ℕ). part 132 n w) (add-one i) ∙ take-suc (drop 132 w) i 0 (rw length-drop (omega arith)) ∙ ap (λ (n : ℕ). part 132 i w ++ n ∷ []) (getD-drop 132 w i 0)
 
 total-last : (s : List ℕ) (n : ℕ) → total s + total (n ∷ []) ≡ total s + (n + 0)
 unfolding total
@@ -42,9 +42,9 @@ total-last s n = refl
 pub record Placing (w places : List ℕ) (count : ℕ) (a : List ℕ) (start i : ℕ) : Type 0 where
   pub within : i ≤ count
   pub same : length a ≡ length places
-  pub is : a ≡ putAt 0 (placesOf 2048 (part 133 i w)) places
-  pub start-is : start ≡ 2048 + total (part 133 i w)
-  pub left : start + total (part (133 + i) (count - i) w) ≡ 2048 + total (part 133 count w)
+  pub is : a ≡ putAt 0 (placesOf 2048 (part 132 i w)) places
+  pub start-is : start ≡ 2048 + total (part 132 i w)
+  pub left : start + total (part (132 + i) (count - i) w) ≡ 2048 + total (part 132 count w)
 
 pub placing-none : (w places : List ℕ) (count : ℕ) → Placing w places count places 2048 0
 unfolding placesOf total
@@ -53,42 +53,42 @@ placing-none w places count = record {
   same = refl;
   is = sym (written-none 0 places);
   start-is = refl;
-  left = ap (λ (l : List ℕ). 2048 + total l) (sym (part-start w 133 count));
+  left = ap (λ (l : List ℕ). 2048 + total l) (sym (part-start w 132 count));
 }
 
 module _ {w places : List ℕ} {count : ℕ} {a : List ℕ} {start i : ℕ} (p : Placing w places count a start i) (x : Expandable w places count) where
-  left-next : i < count → start + (getD w (133 + i) 0 + total (part (133 + (i + 1)) (count - (i + 1)) w)) ≡ 2048 + total (part 133 count w)
+  left-next : i < count → start + (getD w (132 + i) 0 + total (part (132 + (i + 1)) (count - (i + 1)) w)) ≡ 2048 + total (part 132 count w)
   unfolding total
-  left-next h = ap (λ (l : List ℕ). start + total l) (sym (part-next w 133 count i 0 h (omega (arith, x .words, x .few)))) ∙ p .left
+  left-next h = ap (λ (l : List ℕ). start + total l) (sym (part-next w 132 count i 0 h (omega (arith, x .words, x .few)))) ∙ p .left
 
-  pub place-room : i < count → start + getD w (133 + i) 0 ≤ 10240
+  pub place-room : i < count → start + getD w (132 + i) 0 ≤ 10240
   place-room h = omega (arith, left-next h, x .room)
 
-  pub placing-more : {len : ℕ} → len ≡ getD w (133 + i) 0 → i < count → Placing w places count (set (set a (2 * i) start) (2 * i + 1) len) (start + len) (i + 1)
+  pub placing-more : {len : ℕ} → len ≡ getD w (132 + i) 0 → i < count → Placing w places count (set (set a (2 * i) start) (2 * i + 1) len) (start + len) (i + 1)
   placing-more {len} e h =
-      let ls : List ℕ = part 133 i w in
+      let ls : List ℕ = part 132 i w in
       let t : List ℕ = placesOf 2048 ls in
-      let c : length ls ≡ i = length-part 133 i w (omega (arith, x .words, x .few)) in
+      let c : length ls ≡ i = length-part 132 i w (omega (arith, x .words, x .few)) in
       let tl : length t ≡ 2 * i = places-length 2048 ls ∙ ap (λ (n : ℕ). 2 * n) c in
       let t₁ : length (t ++ start ∷ []) ≡ 2 * i + 1 = length-append t (start ∷ []) ∙ ap (λ (n : ℕ). n + 1) tl in
       let at₀ : 2 * i ≡ 0 + length t = sym tl ∙ sym (zero-add (length t)) in
       let at₁ : 2 * i + 1 ≡ 0 + length (t ++ start ∷ []) = sym t₁ ∙ sym (zero-add (length (t ++ start ∷ []))) in
-      let s : part 133 (i + 1) w ≡ ls ++ len ∷ [] = part-snoc w i (omega (arith, x .words, x .few)) ∙ ap (λ (n : ℕ). ls ++ n ∷ []) (sym e) in
-      let q : placesOf 2048 (part 133 (i + 1) w) ≡ (t ++ start ∷ []) ++ len ∷ [] =
+      let s : part 132 (i + 1) w ≡ ls ++ len ∷ [] = part-snoc w i (omega (arith, x .words, x .few)) ∙ ap (λ (n : ℕ). ls ++ n ∷ []) (sym e) in
+      let q : placesOf 2048 (part 132 (i + 1) w) ≡ (t ++ start ∷ []) ++ len ∷ [] =
       ap (placesOf 2048) s ∙ places-snoc 2048 ls len ∙ ap (λ (n : ℕ). t ++ n ∷ len ∷ []) (sym (p .start-is)) ∙ sym (append-assoc t (start ∷ []) (len ∷ [])) in
-      let is′ : set (set a (2 * i) start) (2 * i + 1) len ≡ putAt 0 (placesOf 2048 (part 133 (i + 1) w)) places =
+      let is′ : set (set a (2 * i) start) (2 * i + 1) len ≡ putAt 0 (placesOf 2048 (part 132 (i + 1) w)) places =
       (λ z. set (set (p .is z) (at₀ z) start) (at₁ z) len) ∙ ap (λ (l : List ℕ). set l (0 + length (t ++ start ∷ [])) len) (written-set 0 t places start (omega (arith, x .table)))
       ∙ written-set 0 (t ++ start ∷ []) places len (omega (arith, x .table)) ∙ ap (λ (l : List ℕ). putAt 0 l places) (sym q) in
       record {
         within = omega arith;
         same = length-set (set a (2 * i) start) (2 * i + 1) len ∙ length-set a (2 * i) start ∙ p .same;
         is = is′;
-        start-is = let y : total (part 133 (i + 1) w) ≡ total ls + (len + 0) = ap total s ∙ total-append ls (len ∷ []) ∙ total-last ls len in omega (arith, p .start-is);
+        start-is = let y : total (part 132 (i + 1) w) ≡ total ls + (len + 0) = ap total s ∙ total-append ls (len ∷ []) ∙ total-last ls len in omega (arith, p .start-is);
         left = omega (arith, left-next h);
       }
 
-  pub placed : count ≤ i → a ≡ putAt 0 (placesOf 2048 (part 133 count w)) places
-  placed h = p .is ∙ ap (λ (n : ℕ). putAt 0 (placesOf 2048 (part 133 n w)) places) (le-antisymm (p .within) h)
+  pub placed : count ≤ i → a ≡ putAt 0 (placesOf 2048 (part 132 count w)) places
+  placed h = p .is ∙ ap (λ (n : ℕ). putAt 0 (placesOf 2048 (part 132 n w)) places) (le-antisymm (p .within) h)
 
 -- WHAT THE PLACES ARE. Argument j of the table behind 2 k words is argument k + j of the whole.
 arguments-behind : (done rest : List ℕ) (s : Bytes) (k j n : ℕ) → length done ≡ 2 * k → argumentsAt (k + j) n (done ++ rest) s ≡ argumentsAt j n rest s
@@ -117,12 +117,12 @@ arguments-placed from size at (l ∷ ls) rest b h =
     λ i. x i ∷ (y ∙ z) i
 
 -- the table that `expand` leaves holds all arguments of the queue
-pub expanded : {w : List ℕ} {b : Bytes} (h : Held w b) (places : List ℕ) → argumentsAt 0 (total (part 69 (getD w 4 0) w)) (putAt 0 (placesOf 2048 (part 133 (total (part 69 (getD w 4 0) w)) w)) places) b ≡ concat (queueIn w b)
+pub expanded : {w : List ℕ} {b : Bytes} (h : Held w b) (places : List ℕ) → argumentsAt 0 (total (part 68 (getD w 3 0) w)) (putAt 0 (placesOf 2048 (part 132 (total (part 68 (getD w 3 0) w)) w)) places) b ≡ concat (queueIn w b)
 unfolding putAt
 expanded {w} {b} h places =
-    let n : ℕ = total (part 69 (getD w 4 0) w) in
-    let ls : List ℕ = part 133 n w in
-    let c : length ls ≡ n = length-part 133 n w (omega (arith, h .words, h .few-arguments)) in
+    let n : ℕ = total (part 68 (getD w 3 0) w) in
+    let ls : List ℕ = part 132 n w in
+    let c : length ls ≡ n = length-part 132 n w (omega (arith, h .words, h .few-arguments)) in
     ap (λ (m : ℕ). argumentsAt 0 m (placesOf 2048 ls ++ drop (0 + length (placesOf 2048 ls)) places) b) (sym c)
     ∙ arguments-placed 2048 8192 0 ls (drop (0 + length (placesOf 2048 ls)) places) b (omega (arith, h .room))
     ∙ sym (queue-arguments h)
@@ -130,16 +130,16 @@ expanded {w} {b} h places =
 pub has-room : {w : List ℕ} {b : Bytes} {p : List ℕ} {s : Bytes} {count : ℕ} → Held w b → PartsIn p s count → (getD w 0 0 ≡ 0 → ⊥)
     → queueFits (queueIn w b ++ argumentsAt 0 count p s ∷ []) ≡ true → HasRoom w p count
 has-room {w} {b} {p} {s} {count} h ps inside e =
-    let n : ℕ = total (part 69 (getD w 4 0) w) in
-    let c1 : Bool = leb (getD w 4 0 + 1) 64 in
+    let n : ℕ = total (part 68 (getD w 3 0) w) in
+    let c1 : Bool = leb (getD w 3 0 + 1) 64 in
     let c2 : Bool = leb (n + count) 512 in
-    let c3 : Bool = leb (total (part 133 n w) + total (lengthsAt 0 count p)) 8192 in
+    let c3 : Bool = leb (total (part 132 n w) + total (lengthsAt 0 count p)) 8192 in
     let t : (c1 && c2 && c3) ≡ true = sym (fits-as h ps) ∙ e in
     let r1 = both-parts (c1 && c2) c3 t in
     let r2 = both-parts c1 c2 (r1 .0) in
     record {
       inside = inside;
-      command = omega (arith, leb-true (getD w 4 0 + 1) 64 (r2 .0));
+      command = omega (arith, leb-true (getD w 3 0 + 1) 64 (r2 .0));
       arguments = leb-true (n + count) 512 (r2 .1);
-      bytes = leb-true (total (part 133 n w) + total (lengthsAt 0 count p)) 8192 (r1 .1);
+      bytes = leb-true (total (part 132 n w) + total (lengthsAt 0 count p)) 8192 (r1 .1);
     }

@@ -174,46 +174,46 @@ module _ {w : List ℕ} {b : Bytes} {p : List ℕ} {s : Bytes} {count : ℕ} (h 
   lengths-of : map length (argumentsAt 0 count p s) ≡ lengthsAt 0 count p
   lengths-of = arguments-lengths 0 count p s (λ j l. ps .inside j (omega arith))
 
-  pub appended-counts : map length (queueIn w b ++ argumentsAt 0 count p s ∷ []) ≡ part 69 (getD w 4 0) w ++ count ∷ []
+  pub appended-counts : map length (queueIn w b ++ argumentsAt 0 count p s ∷ []) ≡ part 68 (getD w 3 0) w ++ count ∷ []
   appended-counts =
       map-append length (queueIn w b) (argumentsAt 0 count p s ∷ []) ∙ (λ z. queue-counts h z ++ arguments-count 0 count p s z ∷ [])
 
-  pub appended-lengths : map length (concat (queueIn w b ++ argumentsAt 0 count p s ∷ [])) ≡ part 133 (total (part 69 (getD w 4 0) w)) w ++ lengthsAt 0 count p
+  pub appended-lengths : map length (concat (queueIn w b ++ argumentsAt 0 count p s ∷ [])) ≡ part 132 (total (part 68 (getD w 3 0) w)) w ++ lengthsAt 0 count p
   appended-lengths =
       ap (map length) (concat-one (queueIn w b) (argumentsAt 0 count p s)) ∙ map-append length (concat (queueIn w b)) (argumentsAt 0 count p s)
       ∙ (λ z. queue-lengths h z ++ lengths-of z)
 
   pub appended-bytes : concat (concat (queueIn w b ++ argumentsAt 0 count p s ∷ []))
-      ≡ take (total (part 133 (total (part 69 (getD w 4 0) w)) w)) (part 2048 8192 b) ++ concat (argumentsAt 0 count p s)
+      ≡ take (total (part 132 (total (part 68 (getD w 3 0) w)) w)) (part 2048 8192 b) ++ concat (argumentsAt 0 count p s)
   appended-bytes =
       ap concat (concat-one (queueIn w b) (argumentsAt 0 count p s)) ∙ concat-append (concat (queueIn w b)) (argumentsAt 0 count p s)
       ∙ ap (λ (l : Bytes). l ++ concat (argumentsAt 0 count p s)) (queue-bytes h)
 
-  pub appended-count : length (queueIn w b ++ argumentsAt 0 count p s ∷ []) ≡ getD w 4 0 + 1
+  pub appended-count : length (queueIn w b ++ argumentsAt 0 count p s ∷ []) ≡ getD w 3 0 + 1
   appended-count = length-append (queueIn w b) (argumentsAt 0 count p s ∷ []) ∙ ap (λ (n : ℕ). n + 1) (queue-count h)
 
-  arguments-total : total (map length (queueIn w b ++ argumentsAt 0 count p s ∷ [])) ≡ total (part 69 (getD w 4 0) w) + count
+  arguments-total : total (map length (queueIn w b ++ argumentsAt 0 count p s ∷ [])) ≡ total (part 68 (getD w 3 0) w) + count
   unfolding total
-  arguments-total = ap total appended-counts ∙ total-append (part 69 (getD w 4 0) w) (count ∷ []) ∙ ap (λ (n : ℕ). total (part 69 (getD w 4 0) w) + n) (add-zero count)
+  arguments-total = ap total appended-counts ∙ total-append (part 68 (getD w 3 0) w) (count ∷ []) ∙ ap (λ (n : ℕ). total (part 68 (getD w 3 0) w) + n) (add-zero count)
 
-  bytes-total : total (map length (concat (queueIn w b ++ argumentsAt 0 count p s ∷ []))) ≡ total (part 133 (total (part 69 (getD w 4 0) w)) w) + total (lengthsAt 0 count p)
-  bytes-total = ap total appended-lengths ∙ total-append (part 133 (total (part 69 (getD w 4 0) w)) w) (lengthsAt 0 count p)
+  bytes-total : total (map length (concat (queueIn w b ++ argumentsAt 0 count p s ∷ []))) ≡ total (part 132 (total (part 68 (getD w 3 0) w)) w) + total (lengthsAt 0 count p)
+  bytes-total = ap total appended-lengths ∙ total-append (part 132 (total (part 68 (getD w 3 0) w)) w) (lengthsAt 0 count p)
 
   pub fits-as : queueFits (queueIn w b ++ argumentsAt 0 count p s ∷ [])
-      ≡ (leb (getD w 4 0 + 1) 64 && leb (total (part 69 (getD w 4 0) w) + count) 512 && leb (total (part 133 (total (part 69 (getD w 4 0) w)) w) + total (lengthsAt 0 count p)) 8192)
+      ≡ (leb (getD w 3 0 + 1) 64 && leb (total (part 68 (getD w 3 0) w) + count) 512 && leb (total (part 132 (total (part 68 (getD w 3 0) w)) w) + total (lengthsAt 0 count p)) 8192)
   unfolding queueFits
   fits-as = λ z. leb (appended-count z) 64 && leb (arguments-total z) 512 && leb (bytes-total z) 8192
 
 both-false : (a b : Bool) → a ≡ false → a && b ≡ false
 both-false a b e = rw e
 
-module _ {w : List ℕ} (q : QueueSizes w) {n : ℕ} (e : n ≡ getD w 4 0) where
+module _ {w : List ℕ} (q : QueueSizes w) {n : ℕ} (e : n ≡ getD w 3 0) where
   pub queue-full : {p : List ℕ} {count : ℕ} → 64 ≤ n → Takes w p count false
-  queue-full h = record { is = λ b s k ps. sym (fits-as k ps ∙ rw (lt-leb (getD w 4 0 + 1) 64 (omega arith))) }
+  queue-full h = record { is = λ b s k ps. sym (fits-as k ps ∙ rw (lt-leb (getD w 3 0 + 1) 64 (omega arith))) }
 
-  module _ {m : ℕ} (f : m ≡ capped 512 (total (part 69 n w))) where
-    pub arguments-are : m ≡ total (part 69 (getD w 4 0) w)
-    arguments-are = f ∙ ap (λ (x : ℕ). capped 512 (total (part 69 x w))) e ∙ capped-low 512 (total (part 69 (getD w 4 0) w)) (q .few-arguments)
+  module _ {m : ℕ} (f : m ≡ capped 512 (total (part 68 n w))) where
+    pub arguments-are : m ≡ total (part 68 (getD w 3 0) w)
+    arguments-are = f ∙ ap (λ (x : ℕ). capped 512 (total (part 68 x w))) e ∙ capped-low 512 (total (part 68 (getD w 3 0) w)) (q .few-arguments)
 
     pub arguments-few : m ≤ 512
     arguments-few = omega (arith, arguments-are, q .few-arguments)
@@ -222,74 +222,74 @@ module _ {w : List ℕ} (q : QueueSizes w) {n : ℕ} (e : n ≡ getD w 4 0) wher
     arguments-full {p} {count} l h = record {
       is = λ b s k ps.
           sym (fits-as k ps
-          ∙ rw (le-leb (getD w 4 0 + 1) 64 (omega arith), lt-leb (total (part 69 (getD w 4 0) w) + count) 512 (omega (arith, arguments-are, arguments-few))));
+          ∙ rw (le-leb (getD w 3 0 + 1) 64 (omega arith), lt-leb (total (part 68 (getD w 3 0) w) + count) 512 (omega (arith, arguments-are, arguments-few))));
     }
 
-    module _ {u : ℕ} (g : u ≡ capped 8192 (total (part 133 m w))) where
-      pub bytes-are : u ≡ total (part 133 (total (part 69 (getD w 4 0) w)) w)
-      bytes-are = g ∙ ap (λ (x : ℕ). capped 8192 (total (part 133 x w))) arguments-are ∙ capped-low 8192 (total (part 133 (total (part 69 (getD w 4 0) w)) w)) (q .room)
+    module _ {u : ℕ} (g : u ≡ capped 8192 (total (part 132 m w))) where
+      pub bytes-are : u ≡ total (part 132 (total (part 68 (getD w 3 0) w)) w)
+      bytes-are = g ∙ ap (λ (x : ℕ). capped 8192 (total (part 132 x w))) arguments-are ∙ capped-low 8192 (total (part 132 (total (part 68 (getD w 3 0) w)) w)) (q .room)
 
       pub bytes-few : u ≤ 8192
       bytes-few = omega (arith, bytes-are, q .room)
 
-      capped-test : (p : List ℕ) (count : ℕ) → leb (capped (8192 - u) (total (lengthsAt 0 count p))) (8192 - u) ≡ leb (total (part 133 (total (part 69 (getD w 4 0) w)) w) + total (lengthsAt 0 count p)) 8192
+      capped-test : (p : List ℕ) (count : ℕ) → leb (capped (8192 - u) (total (lengthsAt 0 count p))) (8192 - u) ≡ leb (total (part 132 (total (part 68 (getD w 3 0) w)) w) + total (lengthsAt 0 count p)) 8192
       capped-test p count = go (leb (total (lengthsAt 0 count p)) (8192 - u)) refl
         where
           go : (v : Bool) → leb (total (lengthsAt 0 count p)) (8192 - u) ≡ v
-              → leb (capped (8192 - u) (total (lengthsAt 0 count p))) (8192 - u) ≡ leb (total (part 133 (total (part 69 (getD w 4 0) w)) w) + total (lengthsAt 0 count p)) 8192
+              → leb (capped (8192 - u) (total (lengthsAt 0 count p))) (8192 - u) ≡ leb (total (part 132 (total (part 68 (getD w 3 0) w)) w) + total (lengthsAt 0 count p)) 8192
           go true t =
               let x : total (lengthsAt 0 count p) ≤ 8192 - u = leb-true (total (lengthsAt 0 count p)) (8192 - u) t in
               ap (λ (y : ℕ). leb y (8192 - u)) (capped-low (8192 - u) (total (lengthsAt 0 count p)) x) ∙ t
-              ∙ sym (le-leb (total (part 133 (total (part 69 (getD w 4 0) w)) w) + total (lengthsAt 0 count p)) 8192 (omega (arith, bytes-are, bytes-few)))
+              ∙ sym (le-leb (total (part 132 (total (part 68 (getD w 3 0) w)) w) + total (lengthsAt 0 count p)) 8192 (omega (arith, bytes-are, bytes-few)))
           go false t =
               let x : 8192 - u < total (lengthsAt 0 count p) = leb-false (total (lengthsAt 0 count p)) (8192 - u) t in
               ap (λ (y : ℕ). leb y (8192 - u)) (capped-high (8192 - u) (total (lengthsAt 0 count p)) x) ∙ lt-leb (8192 - u + 1) (8192 - u) (omega arith)
-              ∙ sym (lt-leb (total (part 133 (total (part 69 (getD w 4 0) w)) w) + total (lengthsAt 0 count p)) 8192 (omega (arith, bytes-are, bytes-few)))
+              ∙ sym (lt-leb (total (part 132 (total (part 68 (getD w 3 0) w)) w) + total (lengthsAt 0 count p)) 8192 (omega (arith, bytes-are, bytes-few)))
 
       pub bytes-test : (p : List ℕ) (count : ℕ) {more : ℕ} → more ≡ capped (8192 - u) (total (lengthsAt 0 count p)) → n < 64 → count ≤ 512 - m → Takes w p count (leb more (8192 - u))
       bytes-test p count {more} c l h = record {
         is = λ b s k ps.
             ap (λ (x : ℕ). leb x (8192 - u)) c ∙ capped-test p count
-            ∙ sym (fits-as k ps ∙ rw (le-leb (getD w 4 0 + 1) 64 (omega arith), le-leb (total (part 69 (getD w 4 0) w) + count) 512 (omega (arith, arguments-are, arguments-few))));
+            ∙ sym (fits-as k ps ∙ rw (le-leb (getD w 3 0 + 1) 64 (omega arith), le-leb (total (part 68 (getD w 3 0) w) + count) 512 (omega (arith, arguments-are, arguments-few))));
       }
 
 flag-suc : (n : ℕ) → flagWord true (suc n) ≡ suc n
 unfolding flagWord
 flag-suc n = refl
 
--- APPENDED. The head, the keys' lengths and sequences, 69 words, then 64 counts, then 512 lengths.
+-- APPENDED. The head, the keys' lengths and sequences, 68 words, then 64 counts, then 512 lengths.
 module _ {w : List ℕ} {b : Bytes} {p : List ℕ} {s : Bytes} {count : ℕ} (h : Held w b) (ps : PartsIn p s count) (r : HasRoom w p count) where
   front : List ℕ
-  front = getD w 0 0 ∷ getD w 1 0 ∷ getD w 2 0 ∷ getD w 3 0 ∷ getD w 4 0 ∷ (part 5 32 w ++ part 37 32 w)
+  front = getD w 0 0 ∷ getD w 1 0 ∷ getD w 2 0 ∷ getD w 3 0 ∷ (part 4 32 w ++ part 36 32 w)
 
-  front-length : length front ≡ 69
+  front-length : length front ≡ 68
   unfolding front
-  front-length = let e : length (part 5 32 w ++ part 37 32 w) ≡ 64 = length-append (part 5 32 w) (part 37 32 w) ∙ rw (length-part 5 32 w (omega (arith, h .words)), length-part 37 32 w (omega (arith, h .words))) in omega arith
+  front-length = let e : length (part 4 32 w ++ part 36 32 w) ≡ 64 = length-append (part 4 32 w) (part 36 32 w) ∙ rw (length-part 4 32 w (omega (arith, h .words)), length-part 36 32 w (omega (arith, h .words))) in omega arith
 
-  counts-length : length (part 69 64 w) ≡ 64
-  counts-length = length-part 69 64 w (omega (arith, h .words))
+  counts-length : length (part 68 64 w) ≡ 64
+  counts-length = length-part 68 64 w (omega (arith, h .words))
 
-  table-length : length (part 133 512 w) ≡ 512
-  table-length = length-part 133 512 w (omega (arith, h .words))
+  table-length : length (part 132 512 w) ≡ 512
+  table-length = length-part 132 512 w (omega (arith, h .words))
 
-  cut : w ≡ (front ++ part 69 64 w) ++ part 133 512 w
+  cut : w ≡ (front ++ part 68 64 w) ++ part 132 512 w
   unfolding front
   cut = shape w (h .words)
 
   -- the lengths, behind those that are there
-  lengths-put : (m : ℕ) → putAt (133 + m) (lengthsAt 0 count p) w ≡ (front ++ part 69 64 w) ++ putAt m (lengthsAt 0 count p) (part 133 512 w)
+  lengths-put : (m : ℕ) → putAt (132 + m) (lengthsAt 0 count p) w ≡ (front ++ part 68 64 w) ++ putAt m (lengthsAt 0 count p) (part 132 512 w)
   lengths-put m =
-      ap (putAt (133 + m) (lengthsAt 0 count p)) cut
-      ∙ written-second (front ++ part 69 64 w) (part 133 512 w) (lengthsAt 0 count p) 133 m (length-append front (part 69 64 w) ∙ omega (arith, front-length, counts-length))
+      ap (putAt (132 + m) (lengthsAt 0 count p)) cut
+      ∙ written-second (front ++ part 68 64 w) (part 132 512 w) (lengthsAt 0 count p) 132 m (length-append front (part 68 64 w) ∙ omega (arith, front-length, counts-length))
 
   -- the count, behind those that are there
-  count-put : (l : List ℕ) → set ((front ++ part 69 64 w) ++ l) (69 + getD w 4 0) count ≡ (front ++ putAt (getD w 4 0) (count ∷ []) (part 69 64 w)) ++ l
+  count-put : (l : List ℕ) → set ((front ++ part 68 64 w) ++ l) (68 + getD w 3 0) count ≡ (front ++ putAt (getD w 3 0) (count ∷ []) (part 68 64 w)) ++ l
   count-put l =
-      let e : length (front ++ part 69 64 w) ≡ 133 = length-append front (part 69 64 w) ∙ omega (arith, front-length, counts-length) in
-      let f : length ((front ++ part 69 64 w) ++ l) ≡ length (front ++ part 69 64 w) + length l = length-append (front ++ part 69 64 w) l in
-      written-one (69 + getD w 4 0) count ((front ++ part 69 64 w) ++ l) (omega (arith, r .command))
-      ∙ written-first (front ++ part 69 64 w) l (count ∷ []) (69 + getD w 4 0) (omega (arith, r .command))
-      ∙ ap (λ (x : List ℕ). x ++ l) (written-second front (part 69 64 w) (count ∷ []) 69 (getD w 4 0) front-length)
+      let e : length (front ++ part 68 64 w) ≡ 132 = length-append front (part 68 64 w) ∙ omega (arith, front-length, counts-length) in
+      let f : length ((front ++ part 68 64 w) ++ l) ≡ length (front ++ part 68 64 w) + length l = length-append (front ++ part 68 64 w) l in
+      written-one (68 + getD w 3 0) count ((front ++ part 68 64 w) ++ l) (omega (arith, r .command))
+      ∙ written-first (front ++ part 68 64 w) l (count ∷ []) (68 + getD w 3 0) (omega (arith, r .command))
+      ∙ ap (λ (x : List ℕ). x ++ l) (written-second front (part 68 64 w) (count ∷ []) 68 (getD w 3 0) front-length)
 
   flag-set : flagWord true (getD w 0 0) ≡ getD w 0 0
   flag-set = go (getD w 0 0) (r .inside)
@@ -298,58 +298,58 @@ module _ {w : List ℕ} {b : Bytes} {p : List ℕ} {s : Bytes} {count : ℕ} (h 
       go zero f = absurd (f refl)
       go (suc n) f = flag-suc n
 
-  counts-over : over-front (map length (queueIn w b ++ argumentsAt 0 count p s ∷ [])) (part 69 64 w) ≡ putAt (getD w 4 0) (count ∷ []) (part 69 64 w)
+  counts-over : over-front (map length (queueIn w b ++ argumentsAt 0 count p s ∷ [])) (part 68 64 w) ≡ putAt (getD w 3 0) (count ∷ []) (part 68 64 w)
   counts-over =
-      ap (λ (l : List ℕ). over-front l (part 69 64 w)) (appended-counts h ps ∙ ap (λ (l : List ℕ). l ++ count ∷ []) (front-part h 69 64 (getD w 4 0) (h .few-commands)))
-      ∙ over-behind (getD w 4 0) (count ∷ []) (part 69 64 w) (omega (arith, counts-length, h .few-commands))
+      ap (λ (l : List ℕ). over-front l (part 68 64 w)) (appended-counts h ps ∙ ap (λ (l : List ℕ). l ++ count ∷ []) (front-part h 68 64 (getD w 3 0) (h .few-commands)))
+      ∙ over-behind (getD w 3 0) (count ∷ []) (part 68 64 w) (omega (arith, counts-length, h .few-commands))
 
-  lengths-over : over-front (map length (concat (queueIn w b ++ argumentsAt 0 count p s ∷ []))) (part 133 512 w) ≡ putAt (total (part 69 (getD w 4 0) w)) (lengthsAt 0 count p) (part 133 512 w)
+  lengths-over : over-front (map length (concat (queueIn w b ++ argumentsAt 0 count p s ∷ []))) (part 132 512 w) ≡ putAt (total (part 68 (getD w 3 0) w)) (lengthsAt 0 count p) (part 132 512 w)
   lengths-over =
-      ap (λ (l : List ℕ). over-front l (part 133 512 w)) (appended-lengths h ps ∙ ap (λ (l : List ℕ). l ++ lengthsAt 0 count p) (front-part h 133 512 (total (part 69 (getD w 4 0) w)) (h .few-arguments)))
-      ∙ over-behind (total (part 69 (getD w 4 0) w)) (lengthsAt 0 count p) (part 133 512 w) (omega (arith, table-length, h .few-arguments))
+      ap (λ (l : List ℕ). over-front l (part 132 512 w)) (appended-lengths h ps ∙ ap (λ (l : List ℕ). l ++ lengthsAt 0 count p) (front-part h 132 512 (total (part 68 (getD w 3 0) w)) (h .few-arguments)))
+      ∙ over-behind (total (part 68 (getD w 3 0) w)) (lengthsAt 0 count p) (part 132 512 w) (omega (arith, table-length, h .few-arguments))
 
-  words-appended : set (set (putAt (133 + total (part 69 (getD w 4 0) w)) (lengthsAt 0 count p) w) (69 + getD w 4 0) count) 4 (getD w 4 0 + 1)
+  words-appended : set (set (putAt (132 + total (part 68 (getD w 3 0) w)) (lengthsAt 0 count p) w) (68 + getD w 3 0) count) 3 (getD w 3 0 + 1)
       ≡ sessionWords (queuing (queueIn w b ++ argumentsAt 0 count p s ∷ []) (sessionFrom w b)) w b
   unfolding sessionWords front
   words-appended =
-      ap (λ (x : List ℕ). set (set x (69 + getD w 4 0) count) 4 (getD w 4 0 + 1)) (lengths-put (total (part 69 (getD w 4 0) w)))
-      ∙ ap (λ (x : List ℕ). set x 4 (getD w 4 0 + 1)) (count-put (putAt (total (part 69 (getD w 4 0) w)) (lengthsAt 0 count p) (part 133 512 w)))
-      ∙ sym (λ z. flag-set z ∷ failed-kept h z ∷ getD w 2 0 ∷ watched-kept h z ∷ appended-count h ps z ∷ (keys-table h z ++ sequences-table h z ++ counts-over z ++ lengths-over z))
+      ap (λ (x : List ℕ). set (set x (68 + getD w 3 0) count) 3 (getD w 3 0 + 1)) (lengths-put (total (part 68 (getD w 3 0) w)))
+      ∙ ap (λ (x : List ℕ). set x 3 (getD w 3 0 + 1)) (count-put (putAt (total (part 68 (getD w 3 0) w)) (lengthsAt 0 count p) (part 132 512 w)))
+      ∙ sym (λ z. flag-set z ∷ failed-kept h z ∷ watched-kept h z ∷ appended-count h ps z ∷ (keys-table h z ++ sequences-table h z ++ counts-over z ++ lengths-over z))
 
-  bytes-appended : putAt (2048 + total (part 133 (total (part 69 (getD w 4 0) w)) w)) (concat (argumentsAt 0 count p s)) b
+  bytes-appended : putAt (2048 + total (part 132 (total (part 68 (getD w 3 0) w)) w)) (concat (argumentsAt 0 count p s)) b
       ≡ sessionBytes (queuing (queueIn w b ++ argumentsAt 0 count p s ∷ []) (sessionFrom w b)) b
   unfolding sessionBytes
   bytes-appended =
-      let u : ℕ = total (part 133 (total (part 69 (getD w 4 0) w)) w) in
+      let u : ℕ = total (part 132 (total (part 68 (getD w 3 0) w)) w) in
       ap (putAt (2048 + u) (concat (argumentsAt 0 count p s))) (bytes-shape b (h .bytes))
       ∙ written-second (part 0 2048 b) (part 2048 8192 b) (concat (argumentsAt 0 count p s)) 2048 u (data-length h)
       ∙ sym (λ z. keys-data h z ++ behind-queue z)
     where
       behind-queue : over-front (concat (concat (queueIn w b ++ argumentsAt 0 count p s ∷ []))) (part 2048 8192 b)
-          ≡ putAt (total (part 133 (total (part 69 (getD w 4 0) w)) w)) (concat (argumentsAt 0 count p s)) (part 2048 8192 b)
+          ≡ putAt (total (part 132 (total (part 68 (getD w 3 0) w)) w)) (concat (argumentsAt 0 count p s)) (part 2048 8192 b)
       behind-queue =
           ap (λ (l : Bytes). over-front l (part 2048 8192 b)) (appended-bytes h ps)
-          ∙ over-behind (total (part 133 (total (part 69 (getD w 4 0) w)) w)) (concat (argumentsAt 0 count p s)) (part 2048 8192 b) (rw (queue-data-length h) (h .room))
+          ∙ over-behind (total (part 132 (total (part 68 (getD w 3 0) w)) w)) (concat (argumentsAt 0 count p s)) (part 2048 8192 b) (rw (queue-data-length h) (h .room))
 
   pub queue-sizes : QueueSizes w
   queue-sizes = record { words = h .words; few-commands = h .few-commands; few-arguments = h .few-arguments; room = h .room }
 
   -- from the steps' own words
-  pub append-left : {n m u : ℕ} {w₁ : List ℕ} {b₁ : Bytes} → n ≡ getD w 4 0 → m ≡ capped 512 (total (part 69 n w)) → u ≡ capped 8192 (total (part 133 m w))
-      → w₁ ≡ putAt (133 + m) (lengthsAt 0 count p) w → b₁ ≡ putAt (2048 + u) (concat (argumentsAt 0 count p s)) b
-      → Appended w (set (set w₁ (69 + n) count) 4 (n + 1)) b b₁ (argumentsAt 0 count p s)
+  pub append-left : {n m u : ℕ} {w₁ : List ℕ} {b₁ : Bytes} → n ≡ getD w 3 0 → m ≡ capped 512 (total (part 68 n w)) → u ≡ capped 8192 (total (part 132 m w))
+      → w₁ ≡ putAt (132 + m) (lengthsAt 0 count p) w → b₁ ≡ putAt (2048 + u) (concat (argumentsAt 0 count p s)) b
+      → Appended w (set (set w₁ (68 + n) count) 3 (n + 1)) b b₁ (argumentsAt 0 count p s)
   append-left e f g p₁ p₂ =
       let f′ = arguments-are queue-sizes e f in
       let g′ = bytes-are queue-sizes e f g in
       record {
-        words = (λ z. set (set (p₁ z) (69 + e z) count) 4 (e z + 1)) ∙ (λ z. set (set (putAt (133 + f′ z) (lengthsAt 0 count p) w) (69 + getD w 4 0) count) 4 (getD w 4 0 + 1)) ∙ words-appended;
+        words = (λ z. set (set (p₁ z) (68 + e z) count) 3 (e z + 1)) ∙ (λ z. set (set (putAt (132 + f′ z) (lengthsAt 0 count p) w) (68 + getD w 3 0) count) 3 (getD w 3 0 + 1)) ∙ words-appended;
         bytes = p₂ ∙ (λ z. putAt (2048 + g′ z) (concat (argumentsAt 0 count p s)) b) ∙ bytes-appended;
       }
 
   -- what the steps ask
-  pub append-places : {n m : ℕ} → n ≡ getD w 4 0 → m ≡ capped 512 (total (part 69 n w)) → (n < 64) × (m + count ≤ 512)
+  pub append-places : {n m : ℕ} → n ≡ getD w 3 0 → m ≡ capped 512 (total (part 68 n w)) → (n < 64) × (m + count ≤ 512)
   append-places e f = (omega (arith, r .command), omega (arith, arguments-are queue-sizes e f, r .arguments))
 
-  pub append-room : {n m u : ℕ} → n ≡ getD w 4 0 → m ≡ capped 512 (total (part 69 n w)) → u ≡ capped 8192 (total (part 133 m w))
+  pub append-room : {n m u : ℕ} → n ≡ getD w 3 0 → m ≡ capped 512 (total (part 68 n w)) → u ≡ capped 8192 (total (part 132 m w))
       → (n < 64) × (m + count ≤ 512) × (u + total (lengthsAt 0 count p) ≤ 8192)
   append-room e f g = (omega (arith, r .command), omega (arith, arguments-are queue-sizes e f, r .arguments), omega (arith, bytes-are queue-sizes e f g, r .bytes))

@@ -32,52 +32,52 @@ capped-within limit n h = go (leb n limit) refl
     go false e = let c = capped-high limit n (leb-false n limit e) in absurd (omega arith)
 
 -- THE WATCH. `n` is the count of watched keys, `s` what their lengths sum to, `v` whether they ascend.
-module _ (last : ℕ) (w : List ℕ) (b : Bytes) {n : ℕ} (e : n ≡ getD w 3 0) where
+module _ (last : ℕ) (w : List ℕ) (b : Bytes) {n : ℕ} (e : n ≡ getD w 2 0) where
   pub many-watched : 32 < n → false ≡ watchOk last w b
   unfolding watchOk _and_
   many-watched h = rw (← e, lt-leb n 32 h)
 
-  module _ (few : n ≤ 32) {s : ℕ} (is : s ≡ capped 2048 (total (part 5 n w))) where
+  module _ (few : n ≤ 32) {s : ℕ} (is : s ≡ capped 2048 (total (part 4 n w))) where
     pub long-keys : 2048 < s → false ≡ watchOk last w b
     unfolding watchOk _and_
-    long-keys h = rw (← e, le-leb n 32 few, lt-leb (total (part 5 n w)) 2048 (capped-above 2048 (total (part 5 n w)) (rw is at h)))
+    long-keys h = rw (← e, le-leb n 32 few, lt-leb (total (part 4 n w)) 2048 (capped-above 2048 (total (part 4 n w)) (rw is at h)))
 
     module _ (short : s ≤ 2048) where
-      keys-total : total (part 5 n w) ≤ 2048
-      keys-total = capped-within 2048 (total (part 5 n w)) (rw is at short)
+      keys-total : total (part 4 n w) ≤ 2048
+      keys-total = capped-within 2048 (total (part 4 n w)) (rw is at short)
 
       pub keys-in : OneSession w b → KeysIn w b n
       keys-in o = record { words = o .words; bytes = o .bytes; few = few; room = keys-total }
 
-      module _ {v : Bool} (a : v ≡ ascending (splitBy (part 5 n w) (part 0 2048 b))) where
+      module _ {v : Bool} (a : v ≡ ascending (splitBy (part 4 n w) (part 0 2048 b))) where
         pub not-ascending : v ≡ false → false ≡ watchOk last w b
         unfolding watchOk keysIn _and_
-        not-ascending f = rw (← e, le-leb n 32 few, le-leb (total (part 5 n w)) 2048 keys-total, ← a, f)
+        not-ascending f = rw (← e, le-leb n 32 few, le-leb (total (part 4 n w)) 2048 keys-total, ← a, f)
 
-        pub sequences-test : v ≡ true → {u : Bool} → u ≡ noneAbove last (part 37 n w) → u ≡ watchOk last w b
+        pub sequences-test : v ≡ true → {u : Bool} → u ≡ noneAbove last (part 36 n w) → u ≡ watchOk last w b
         unfolding watchOk keysIn _and_
-        sequences-test t q = rw (← e, le-leb n 32 few, le-leb (total (part 5 n w)) 2048 keys-total, ← a, t) q
+        sequences-test t q = rw (← e, le-leb n 32 few, le-leb (total (part 4 n w)) 2048 keys-total, ← a, t) q
 
 -- THE SIZES OF THE QUEUE. `n` is the count of commands, `s` of arguments, `t` of their bytes.
-module _ (w : List ℕ) {n : ℕ} (e : n ≡ getD w 4 0) where
+module _ (w : List ℕ) {n : ℕ} (e : n ≡ getD w 3 0) where
   pub many-queued : 64 < n → false ≡ queueSizesOk w
   unfolding queueSizesOk _and_
   many-queued h = rw (← e, lt-leb n 64 h)
 
-  module _ (few : n ≤ 64) {s : ℕ} (is : s ≡ capped 512 (total (part 69 n w))) where
+  module _ (few : n ≤ 64) {s : ℕ} (is : s ≡ capped 512 (total (part 68 n w))) where
     pub many-arguments : 512 < s → false ≡ queueSizesOk w
     unfolding queueSizesOk _and_
-    many-arguments h = rw (← e, le-leb n 64 few, lt-leb (total (part 69 n w)) 512 (capped-above 512 (total (part 69 n w)) (rw is at h)))
+    many-arguments h = rw (← e, le-leb n 64 few, lt-leb (total (part 68 n w)) 512 (capped-above 512 (total (part 68 n w)) (rw is at h)))
 
-    module _ (short : s ≤ 512) {t : ℕ} (ts : t ≡ capped 8192 (total (part 133 s w))) where
-      arguments-total : total (part 69 n w) ≤ 512
-      arguments-total = capped-within 512 (total (part 69 n w)) (rw is at short)
+    module _ (short : s ≤ 512) {t : ℕ} (ts : t ≡ capped 8192 (total (part 132 s w))) where
+      arguments-total : total (part 68 n w) ≤ 512
+      arguments-total = capped-within 512 (total (part 68 n w)) (rw is at short)
 
-      arguments-are : s ≡ total (part 69 n w)
-      arguments-are = is ∙ capped-low 512 (total (part 69 n w)) arguments-total
+      arguments-are : s ≡ total (part 68 n w)
+      arguments-are = is ∙ capped-low 512 (total (part 68 n w)) arguments-total
 
-      bytes-are : t ≡ capped 8192 (total (part 133 (total (part 69 n w)) w))
-      bytes-are = ts ∙ ap (λ (x : ℕ). capped 8192 (total (part 133 x w))) arguments-are
+      bytes-are : t ≡ capped 8192 (total (part 132 (total (part 68 n w)) w))
+      bytes-are = ts ∙ ap (λ (x : ℕ). capped 8192 (total (part 132 x w))) arguments-are
 
       pub long-arguments : 8192 < t → false ≡ queueSizesOk w
       unfolding queueSizesOk _and_
@@ -85,18 +85,18 @@ module _ (w : List ℕ) {n : ℕ} (e : n ≡ getD w 4 0) where
           rw (
             ← e,
             le-leb n 64 few,
-            le-leb (total (part 69 n w)) 512 arguments-total,
-            lt-leb (total (part 133 (total (part 69 n w)) w)) 8192 (capped-above 8192 (total (part 133 (total (part 69 n w)) w)) (rw bytes-are at h)),
+            le-leb (total (part 68 n w)) 512 arguments-total,
+            lt-leb (total (part 132 (total (part 68 n w)) w)) 8192 (capped-above 8192 (total (part 132 (total (part 68 n w)) w)) (rw bytes-are at h)),
           )
 
-      pub sizes-test : t ≤ 8192 → {v : Bool} → v ≡ allPositive (part 69 n w) → v ≡ queueSizesOk w
+      pub sizes-test : t ≤ 8192 → {v : Bool} → v ≡ allPositive (part 68 n w) → v ≡ queueSizesOk w
       unfolding queueSizesOk _and_
       sizes-test h a =
           rw (
             ← e,
             le-leb n 64 few,
-            le-leb (total (part 69 n w)) 512 arguments-total,
-            le-leb (total (part 133 (total (part 69 n w)) w)) 8192 (capped-within 8192 (total (part 133 (total (part 69 n w)) w)) (rw bytes-are at h)),
+            le-leb (total (part 68 n w)) 512 arguments-total,
+            le-leb (total (part 132 (total (part 68 n w)) w)) 8192 (capped-within 8192 (total (part 132 (total (part 68 n w)) w)) (rw bytes-are at h)),
           ) a
 
 -- THE QUEUE. `s` is whether its sizes are right, `v` whether its commands may be queued.
@@ -105,11 +105,11 @@ module _ (w : List ℕ) (b : Bytes) {s : Bool} (is : s ≡ queueSizesOk w) where
   unfolding _and_
   sizes-wrong f = sym (queue-as w b ∙ rw (← is, f))
 
-  module _ (t : s ≡ true) {n : ℕ} (e : n ≡ getD w 4 0) where
+  module _ (t : s ≡ true) {n : ℕ} (e : n ≡ getD w 3 0) where
     pub queue-in : OneSession w b → QueueIn w b n
     queue-in o = subst (QueueIn w b) (sym e) (sizes-in w b o (sym is ∙ t))
 
-    module _ {v : Bool} (q : v ≡ allQueueable (splitBy (part 69 n w) (splitBy (part 133 (total (part 69 n w)) w) (part 2048 8192 b)))) where
+    module _ {v : Bool} (q : v ≡ allQueueable (splitBy (part 68 n w) (splitBy (part 132 (total (part 68 n w)) w) (part 2048 8192 b)))) where
       queue-then : v ≡ true → queueOk w b ≡ cond (yes? (getD w 0 0)) true (eqb n 0)
       unfolding _and_ queueIn
       queue-then f = queue-as w b ∙ rw (← is, t, ← e, ← q, f)
@@ -136,61 +136,61 @@ module _ (last : ℕ) (w : List ℕ) (b : Bytes) {v : Bool} (a : v ≡ watchOk l
 
 -- ALL SIXTEEN.
 module _ (last : ℕ) (w : List ℕ) (b : Bytes) where
-  pub short-words : length w < 10320 → false ≡ validSessions last w b
+  pub short-words : length w < 10304 → false ≡ validSessions last w b
   unfolding validSessions _and_
-  short-words h = rw (lt-leb 10320 (length w) h)
+  short-words h = rw (lt-leb 10304 (length w) h)
 
-  pub short-bytes : 10320 ≤ length w → length b < 163840 → false ≡ validSessions last w b
+  pub short-bytes : 10304 ≤ length w → length b < 163840 → false ≡ validSessions last w b
   unfolding validSessions _and_
-  short-bytes k h = rw (le-leb 10320 (length w) k, lt-leb 163840 (length b) h)
+  short-bytes k h = rw (le-leb 10304 (length w) k, lt-leb 163840 (length b) h)
 
 -- the first i sessions are valid
 pub record Checked (last : ℕ) (w : List ℕ) (b : Bytes) (i : ℕ) : Type 0 where
-  pub words : 10320 ≤ length w
+  pub words : 10304 ≤ length w
   pub bytes : 163840 ≤ length b
   pub within : i ≤ 16
-  pub is : validSessions last w b ≡ sessionsOkIn last (16 - i) (drop (i * 645) w) (drop (i * 10240) b)
+  pub is : validSessions last w b ≡ sessionsOkIn last (16 - i) (drop (i * 644) w) (drop (i * 10240) b)
 
-pub checked-none : (last : ℕ) (w : List ℕ) (b : Bytes) → 10320 ≤ length w → 163840 ≤ length b → Checked last w b 0
+pub checked-none : (last : ℕ) (w : List ℕ) (b : Bytes) → 10304 ≤ length w → 163840 ≤ length b → Checked last w b 0
 unfolding validSessions _and_
-checked-none last w b h k = record { words = h; bytes = k; within = omega arith; is = rw (le-leb 10320 (length w) h, le-leb 163840 (length b) k) }
+checked-none last w b h k = record { words = h; bytes = k; within = omega arith; is = rw (le-leb 10304 (length w) h, le-leb 163840 (length b) k) }
 
 module _ {last : ℕ} {w : List ℕ} {b : Bytes} {i : ℕ} (c : Checked last w b i) where
-  pub one-session : i < 16 → OneSession (part (i * 645) (i * 645 + 645 - i * 645) w) (part (i * 10240) (i * 10240 + 10240 - i * 10240) b)
+  pub one-session : i < 16 → OneSession (part (i * 644) (i * 644 + 644 - i * 644) w) (part (i * 10240) (i * 10240 + 10240 - i * 10240) b)
   one-session h =
-      let e : i * 645 + 645 - i * 645 ≡ 645 = omega arith in
+      let e : i * 644 + 644 - i * 644 ≡ 644 = omega arith in
       let f : i * 10240 + 10240 - i * 10240 ≡ 10240 = omega arith in
       record {
-        words = ap (λ (n : ℕ). length (part (i * 645) n w)) e ∙ length-part (i * 645) 645 w (omega (arith, c .words));
+        words = ap (λ (n : ℕ). length (part (i * 644) n w)) e ∙ length-part (i * 644) 644 w (omega (arith, c .words));
         bytes = ap (λ (n : ℕ). length (part (i * 10240) n b)) f ∙ length-part (i * 10240) 10240 b (omega (arith, c .bytes));
       }
 
-  module _ (h : i < 16) {v : Bool} (a : v ≡ sessionOk last (part (i * 645) (i * 645 + 645 - i * 645) w) (part (i * 10240) (i * 10240 + 10240 - i * 10240) b)) where
-    checked-session : v ≡ sessionOk last (take 645 (drop (i * 645) w)) (take 10240 (drop (i * 10240) b))
+  module _ (h : i < 16) {v : Bool} (a : v ≡ sessionOk last (part (i * 644) (i * 644 + 644 - i * 644) w) (part (i * 10240) (i * 10240 + 10240 - i * 10240) b)) where
+    checked-session : v ≡ sessionOk last (take 644 (drop (i * 644) w)) (take 10240 (drop (i * 10240) b))
     checked-session =
-        let e : i * 645 + 645 - i * 645 ≡ 645 = omega arith in
+        let e : i * 644 + 644 - i * 644 ≡ 644 = omega arith in
         let f : i * 10240 + 10240 - i * 10240 ≡ 10240 = omega arith in
-        a ∙ (λ z. sessionOk last (part (i * 645) (e z) w) (part (i * 10240) (f z) b))
+        a ∙ (λ z. sessionOk last (part (i * 644) (e z) w) (part (i * 10240) (f z) b))
 
-    left-is : validSessions last w b ≡ sessionsOkIn last (suc (16 - (i + 1))) (drop (i * 645) w) (drop (i * 10240) b)
-    left-is = let e : 16 - i ≡ suc (16 - (i + 1)) = omega arith in c .is ∙ ap (λ (n : ℕ). sessionsOkIn last n (drop (i * 645) w) (drop (i * 10240) b)) e
+    left-is : validSessions last w b ≡ sessionsOkIn last (suc (16 - (i + 1))) (drop (i * 644) w) (drop (i * 10240) b)
+    left-is = let e : 16 - i ≡ suc (16 - (i + 1)) = omega arith in c .is ∙ ap (λ (n : ℕ). sessionsOkIn last n (drop (i * 644) w) (drop (i * 10240) b)) e
 
     pub checked-more : v ≡ true → Checked last w b (i + 1)
     checked-more t =
-        let e : i * 645 + 645 ≡ (i + 1) * 645 = omega arith in
+        let e : i * 644 + 644 ≡ (i + 1) * 644 = omega arith in
         let f : i * 10240 + 10240 ≡ (i + 1) * 10240 = omega arith in
         record {
           words = c .words;
           bytes = c .bytes;
           within = omega arith;
-          is = left-is ∙ sessions-true last (16 - (i + 1)) (drop (i * 645) w) (drop (i * 10240) b) (sym checked-session ∙ t)
-              ∙ (λ z. sessionsOkIn last (16 - (i + 1)) (drop-drop 645 (i * 645) w z) (drop-drop 10240 (i * 10240) b z))
+          is = left-is ∙ sessions-true last (16 - (i + 1)) (drop (i * 644) w) (drop (i * 10240) b) (sym checked-session ∙ t)
+              ∙ (λ z. sessionsOkIn last (16 - (i + 1)) (drop-drop 644 (i * 644) w z) (drop-drop 10240 (i * 10240) b z))
               ∙ (λ z. sessionsOkIn last (16 - (i + 1)) (drop (e z) w) (drop (f z) b));
         }
 
     pub session-wrong : v ≡ false → false ≡ validSessions last w b
-    session-wrong f = sym (left-is ∙ sessions-false last (16 - (i + 1)) (drop (i * 645) w) (drop (i * 10240) b) (sym checked-session ∙ f))
+    session-wrong f = sym (left-is ∙ sessions-false last (16 - (i + 1)) (drop (i * 644) w) (drop (i * 10240) b) (sym checked-session ∙ f))
 
   pub checked-all : 16 ≤ i → true ≡ validSessions last w b
   unfolding sessionsOkIn
-  checked-all h = let e : 16 - i ≡ 0 = omega arith in sym (c .is ∙ ap (λ (n : ℕ). sessionsOkIn last n (drop (i * 645) w) (drop (i * 10240) b)) e)
+  checked-all h = let e : 16 - i ≡ 0 = omega arith in sym (c .is ∙ ap (λ (n : ℕ). sessionsOkIn last n (drop (i * 644) w) (drop (i * 10240) b)) e)

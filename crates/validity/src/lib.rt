@@ -11,7 +11,7 @@ ghost use Rattle.server.specs.Lent.{OneSession, KeysIn, QueueIn, queueSizesOk};
 
 pub const SESSIONS: usize = 16;
 
-pub const WORDS: usize = 645;
+pub const WORDS: usize = 644;
 
 pub const BYTES: usize = 10240;
 
@@ -31,16 +31,16 @@ fn below(bytes: &[u8], start: usize, end: usize, next: usize) -> bool
 // Are the watched keys ascending?
 fn keys_ascending(words: &[u64], bytes: &[u8], count: usize) -> bool
     requires { ⌜ KeysIn (now words) (now bytes) count ⌝ }
-    ensures { λ r. ⌜ r ≡ ascending (splitBy (part 5 count (now (words .entry))) (part 0 2048 (now (bytes .entry)))) ⌝ }
+    ensures { λ r. ⌜ r ≡ ascending (splitBy (part 4 count (now (words .entry))) (part 0 2048 (now (bytes .entry)))) ⌝ }
 {
     if count == 0 {
         return true;
     }
     let mut start = 0;
-    let mut end = sessions::word(words, 5);
+    let mut end = sessions::word(words, 4);
     let mut i = 1;
     while i < count {
-        let next = end + sessions::word(words, 5 + i);
+        let next = end + sessions::word(words, 4 + i);
         if below(bytes, start, end, next) {
             start = end;
             end = next;
@@ -54,12 +54,12 @@ fn keys_ascending(words: &[u64], bytes: &[u8], count: usize) -> bool
 
 // Is no sequence of the first `count` watched keys above the last?
 fn sequences_within(words: &[u64], count: usize, last: u64) -> bool
-    requires { ⌜ 37 + count ≤ length (now words) ⌝ }
-    ensures { λ r. ⌜ r ≡ noneAbove last (part 37 count (now (words .entry))) ⌝ }
+    requires { ⌜ 36 + count ≤ length (now words) ⌝ }
+    ensures { λ r. ⌜ r ≡ noneAbove last (part 36 count (now (words .entry))) ⌝ }
 {
     let mut i = 0;
     while i < count {
-        if last < words[37 + i] {
+        if last < words[36 + i] {
             return false;
         }
         i += 1;
@@ -69,12 +69,12 @@ fn sequences_within(words: &[u64], count: usize, last: u64) -> bool
 
 // Has each of the queued commands an argument, its name?
 fn counts_positive(words: &[u64], count: usize) -> bool
-    requires { ⌜ 69 + count ≤ length (now words) ⌝ }
-    ensures { λ r. ⌜ r ≡ allPositive (part 69 count (now (words .entry))) ⌝ }
+    requires { ⌜ 68 + count ≤ length (now words) ⌝ }
+    ensures { λ r. ⌜ r ≡ allPositive (part 68 count (now (words .entry))) ⌝ }
 {
     let mut i = 0;
     while i < count {
-        if sessions::word(words, 69 + i) == 0 {
+        if sessions::word(words, 68 + i) == 0 {
             return false;
         }
         i += 1;
@@ -84,11 +84,11 @@ fn counts_positive(words: &[u64], count: usize) -> bool
 
 // May the command be queued whose name is argument `first` and starts at `start` of the queue's bytes?
 fn name_queueable(words: &[u64], bytes: &[u8], first: usize, start: usize) -> bool
-    requires { ⌜ (133 + first < length (now words)) × (2048 + start + getD (now words) (133 + first) 0 ≤ length (now bytes)) ⌝ }
-    ensures { λ r. ⌜ r ≡ rowOf (part (2048 + start) (getD (now (words .entry)) (133 + first) 0) (now (bytes .entry))) .queueable ⌝ }
+    requires { ⌜ (132 + first < length (now words)) × (2048 + start + getD (now words) (132 + first) 0 ≤ length (now bytes)) ⌝ }
+    ensures { λ r. ⌜ r ≡ rowOf (part (2048 + start) (getD (now (words .entry)) (132 + first) 0) (now (bytes .entry))) .queueable ⌝ }
 {
     let from = 2048 + start;
-    let to = from + sessions::word(words, 133 + first);
+    let to = from + sessions::word(words, 132 + first);
     let row = names::look_up(&bytes[from..to]);
     names::queueable(row)
 }
@@ -96,15 +96,15 @@ fn name_queueable(words: &[u64], bytes: &[u8], first: usize, start: usize) -> bo
 // May all the queued commands be queued?
 fn names_queueable(words: &[u64], bytes: &[u8], count: usize) -> bool
     requires { ⌜ QueueIn (now words) (now bytes) count ⌝ }
-    ensures { λ r. ⌜ r ≡ allQueueable (splitBy (part 69 count (now (words .entry))) (splitBy (part 133 (total (part 69 count (now (words .entry)))) (now (words .entry))) (part 2048 8192 (now (bytes .entry))))) ⌝ }
+    ensures { λ r. ⌜ r ≡ allQueueable (splitBy (part 68 count (now (words .entry))) (splitBy (part 132 (total (part 68 count (now (words .entry)))) (now (words .entry))) (part 2048 8192 (now (bytes .entry))))) ⌝ }
 {
     let mut first = 0;
     let mut start = 0;
     let mut i = 0;
     while i < count {
         if name_queueable(words, bytes, first, start) {
-            let size = sessions::word(words, 69 + i);
-            start += sessions::sum_within(words, 133 + first, size, 8192);
+            let size = sessions::word(words, 68 + i);
+            start += sessions::sum_within(words, 132 + first, size, 8192);
             first += size;
             i += 1;
         } else {
@@ -119,11 +119,11 @@ fn watch_ok(words: &[u64], bytes: &[u8], last: u64) -> bool
     requires { ⌜ OneSession (now words) (now bytes) ⌝ }
     ensures { λ r. ⌜ r ≡ watchOk last (now (words .entry)) (now (bytes .entry)) ⌝ }
 {
-    let watched = sessions::word(words, 3);
+    let watched = sessions::word(words, 2);
     if 32 < watched {
         return false;
     }
-    if 2048 < sessions::sum_within(words, 5, watched, 2048) {
+    if 2048 < sessions::sum_within(words, 4, watched, 2048) {
         return false;
     }
     if keys_ascending(words, bytes, watched) {
@@ -134,18 +134,18 @@ fn watch_ok(words: &[u64], bytes: &[u8], last: u64) -> bool
 
 // The sizes of the queue of a session are within their limits.
 fn queue_fits(words: &[u64]) -> bool
-    requires { ⌜ length (now words) ≡ 645 ⌝ }
+    requires { ⌜ length (now words) ≡ 644 ⌝ }
     ensures { λ r. ⌜ r ≡ queueSizesOk (now (words .entry)) ⌝ }
 {
-    let queued = sessions::word(words, 4);
+    let queued = sessions::word(words, 3);
     if 64 < queued {
         return false;
     }
-    let arguments = sessions::sum_within(words, 69, queued, 512);
+    let arguments = sessions::sum_within(words, 68, queued, 512);
     if 512 < arguments {
         return false;
     }
-    if 8192 < sessions::sum_within(words, 133, arguments, 8192) {
+    if 8192 < sessions::sum_within(words, 132, arguments, 8192) {
         return false;
     }
     counts_positive(words, queued)
@@ -157,7 +157,7 @@ fn queue_ok(words: &[u64], bytes: &[u8]) -> bool
     ensures { λ r. ⌜ r ≡ queueOk (now (words .entry)) (now (bytes .entry)) ⌝ }
 {
     if queue_fits(words) {
-        let queued = sessions::word(words, 4);
+        let queued = sessions::word(words, 3);
         if names_queueable(words, bytes, queued) {
             if words[0] == 0 {
                 return queued == 0;

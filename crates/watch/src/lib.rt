@@ -1,5 +1,6 @@
 // The watched keys of one session, ascending: lengths and sequences in tables of 32 words, bytes one behind the other.
 use key::Order;
+use memtable::read;
 use server::watched::Grown;
 use server::watched::Spot;
 use store::merge;
@@ -8,8 +9,9 @@ ghost use mathlib.Core.List.{[], _∷_};
 ghost use Prim.Native.Nat.{_+_, _-_, _≤_};
 ghost use lib.ListN.{length, take};
 ghost use Rattle.memtable.specs.Moves.{putAt};
+ghost use Rattle.memtable.specs.Rows.{Valid, versionsIn};
 ghost use Rattle.key.specs.Bytes.{part, over-front};
-ghost use Rattle.server.specs.Session.{addKey, addKeys};
+ghost use Rattle.server.specs.Session.{addKey, addKeys, anyMoved};
 ghost use Rattle.server.specs.Sessions.{sessionFrom};
 ghost use Rattle.server.specs.Lent.{OneSession};
 ghost use Rattle.server.specs.Held.{Held};
@@ -155,12 +157,12 @@ pub fn grow(
     requires { ⌜ Held (now words) (now bytes) ⌝ }
     requires { ⌜ PartsIn (now places) (now input) count ⌝ }
     requires { ⌜ (1 ≤ count) × (length (now lens) ≡ 32) × (length (now seqs) ≡ 32) × (length (now text) ≡ 2048) ⌝ }
-    ensures { λ r. ⌜ GrownTo (addKeys last (argumentsAt 1 (count - 1) (now (places .entry)) (now (input .entry))) (sessionFrom (now (words .entry)) (now (bytes .entry)) .watch)) (part 5 32 (now (words .entry))) (now (lens .exit)) (part 37 32 (now (words .entry))) (now (seqs .exit)) (part 0 2048 (now (bytes .entry))) (now (text .exit)) r ⌝ }
+    ensures { λ r. ⌜ GrownTo (addKeys last (argumentsAt 1 (count - 1) (now (places .entry)) (now (input .entry))) (sessionFrom (now (words .entry)) (now (bytes .entry)) .watch)) (part 4 32 (now (words .entry))) (now (lens .exit)) (part 36 32 (now (words .entry))) (now (seqs .exit)) (part 0 2048 (now (bytes .entry))) (now (text .exit)) r ⌝ }
 {
-    let watched = sessions::word(words, 3);
-    let used = sessions::sum_within(words, 5, watched, 2048);
-    put_words(lens, 0, &words[5..37]);
-    put_words(seqs, 0, &words[37..69]);
+    let watched = sessions::word(words, 2);
+    let used = sessions::sum_within(words, 4, watched, 2048);
+    put_words(lens, 0, &words[4..36]);
+    put_words(seqs, 0, &words[36..68]);
     merge::put(text, 0, &bytes[0..2048]);
     add_keys(
         lens,
@@ -189,8 +191,34 @@ pub fn keep(
     requires { ⌜ (length (now lens) ≡ 32) × (length (now seqs) ≡ 32) × (length (now text) ≡ 2048) ⌝ }
     ensures { λ _. ⌜ WatchPut (now (lens .entry)) (now (seqs .entry)) (now (text .entry)) count (now (words .entry)) (now (words .exit)) (now (bytes .entry)) (now (bytes .exit)) ⌝ }
 {
-    put_words(words, 5, lens);
-    put_words(words, 37, seqs);
+    put_words(words, 4, lens);
+    put_words(words, 36, seqs);
     merge::put(bytes, 0, text);
-    words[3] = count as u64;
+    words[2] = count as u64;
+}
+
+// Has one of the watched keys a version above its sequence?
+pub fn watched_moved(
+    session_words: &[u64],
+    session_bytes: &[u8],
+    words: &[u64],
+    bytes: &[u8],
+) -> bool
+    requires { ⌜ Held (now «session_words») (now «session_bytes») ⌝ }
+    requires { ⌜ Valid (now words) (now bytes) ⌝ }
+    ensures { λ r. ⌜ r ≡ anyMoved (versionsIn (now (words .entry)) (now (bytes .entry))) (sessionFrom (now («session_words» .entry)) (now («session_bytes» .entry)) .watch) ⌝ }
+{
+    let count = sessions::word(session_words, 2);
+    let mut start = 0;
+    let mut i = 0;
+    while i < count {
+        let end = start + sessions::word(session_words, 4 + i);
+        let seq = session_words[36 + i];
+        if read::moved(words, bytes, &session_bytes[start..end], seq) {
+            return true;
+        }
+        start = end;
+        i += 1;
+    }
+    false
 }

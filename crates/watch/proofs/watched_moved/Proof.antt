@@ -1,11 +1,11 @@
--- `exec::watched::watched_moved` meets its contract. Assumes nothing.
-use Rattle.exec.proofs.WatchedKeys.{Passing, passing-none, passing-room, passing-more, passing-found, passed-all}
+-- `watch::watched_moved` meets its contract. Assumes nothing.
+use Rattle.watch.proofs.WatchedKeys.{Passing, passing-none, passing-room, passing-more, passing-found, passed-all}
 use native.Mathlib.Omega.{arith}
 use Rattle.memtable.specs.Rows.{versionsIn}
 use Prim.Native.Nat.{_-_}
 use borrow.Author.Needs.{needs}
-use Rattle.exec.proofs.watched.watched_moved.Statement.{statement}
-use Rattle.exec.proofs.watched.watched_moved.Tie as tie
+use Rattle.watch.proofs.watched_moved.Statement.{statement}
+use Rattle.watch.proofs.watched_moved.Tie as tie
 
 abbrev Inv-loop : tie.InvT-loop
 Inv-loop session-words session-bytes words bytes count start₀ i₀ start i = Passing (versionsIn words bytes) session-words session-bytes count start i
