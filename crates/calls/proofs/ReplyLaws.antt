@@ -1,5 +1,5 @@
 -- What the bytes of a reply tell: the tests of posting's history decide what was answered.
-use Prim.Native.Nat.{_+_, _≤_, _<_}
+use Prim.Native.Nat.{_≤_, _<_}
 use native.Mathlib.Omega.{arith}
 use mathlib.Core.List.{List, [], _∷_, _++_, append-assoc}
 use mathlib.Core.Bool.{true, false, not}

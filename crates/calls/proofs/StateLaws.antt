@@ -14,7 +14,6 @@ use Rattle.server.specs.Session.{clear}
 use Rattle.server.specs.Finish.{Served}
 use Rattle.calls.specs.Serve.{serve, State, openState, refused, answered, Stepped, requestOn}
 use Rattle.calls.specs.Calls.{Lent, valid, storeOf, sessionOf, Called, leaveServed, request-call}
-use Rattle.calls.specs.Demand3.{Opened}
 use Rattle.calls.proofs.LentLaws.{Leaves, servedBy, request-served, request-refused, request-leaves}
 
 -- the lent memory holds the state
@@ -80,6 +79,3 @@ pub holds-opened : (l : Lent) (last versions size : ℕ) → storeOf l ≡ empty
     → Represents l (openState last versions size)
 unfolding openState
 holds-opened l last versions size e f = record { store = e; sixteen = refl; sessions = λ i h. f i h ∙ sym (getD-replicate 16 i clear clear h) }
-
-pub opened-state : (l : Lent) (o : Opened l) → Represents l (openState (o .last) (o .versions) (o .size))
-opened-state l o = holds-opened l (o .last) (o .versions) (o .size) (o .store) (o .sessions)

@@ -1,7 +1,6 @@
 -- Posting (document 01, demand 3): what the calls' arguments and answers alone say of the table and the replies.
 -- First the history: by what was asked and answered, the commands carried out and the accepted members, in order of acceptance.
 -- Then the posting of a history: each item on the table that the one before it left.
-use Prim.Native.Nat.{ℕ}
 use mathlib.Core.List.{List, [], _∷_, _++_, map}
 use mathlib.Core.Bool.{Bool, true, false, cond, not, _&&_, _||_}
 use mathlib.Core.Option.{Option, none, some}

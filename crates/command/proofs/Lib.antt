@@ -1,6 +1,5 @@
 -- The laws of this crate.
 pub mod AmountLaws
 pub mod KindLaws
-pub mod MeaningLaws
 pub mod NameLaws
 pub mod OptionLaws

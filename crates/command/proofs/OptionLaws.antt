@@ -112,9 +112,6 @@ unfolding patternAt
 pattern-behind i a = ap (λ (n : ℕ). argument n a) (add-one i) ∙ ap (λ (n : ℕ). patternAt n a) (sym (add-one i))
 
 module _ {a : Args} {count from i pattern most : ℕ} (s : Scanning a count from i pattern most) where
-  pub option-inside : 1 < count - i → i + 1 < count
-  option-inside h = omega (arith, s .within)
-
   module _ {r : ScanOption} (o : OptionIs a i r) (h : 1 < count - i) where
     stepped : {r′ : ScanOption} → r ≡ r′ → scanOptions from (bytes "*") 10 (drop 2 a) ≡ scanStep r′ from (patternAt pattern a) most (argument (i + 1) a) (drop (i + 2) a)
     stepped e = s .is ∙ o .is from (patternAt pattern a) most ∙ ap (λ (r : ScanOption). scanStep r from (patternAt pattern a) most (argument (i + 1) a) (drop (i + 2) a)) e

@@ -1,9 +1,8 @@
 -- What a queued command does, in the terms in which the code runs it: pairs set, tombstones set, a counter raised, or a reply alone.
 use Prim.Native.Nat.{ℕ, _≤_}
 use mathlib.Core.Path.{_≡_}
-use mathlib.Core.List.{List, [], _∷_, map}
+use mathlib.Core.List.{[], map}
 use lib.IntN.{ℤ, pos}
-use Rattle.key.specs.Keys.{Key}
 use Rattle.resp.specs.Reply.{Reply, Integer, BulkString, Nil, array, bulkOr, ok}
 use Rattle.memtable.specs.Table.{Reader}
 use Rattle.server.specs.Names.{Args, nameWord, arguments}

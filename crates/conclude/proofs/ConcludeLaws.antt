@@ -1,5 +1,5 @@
 -- The end of an EXEC, from the answer, the commit and the session cleared. Assumes nothing.
-use Prim.Native.Nat.{ℕ, _+_, _*_, _^_, _≤_}
+use Prim.Native.Nat.{ℕ, _+_, _^_}
 use mathlib.Core.Path.{_≡_, sym, ap, _∙_, subst}
 use mathlib.Core.Bool.{Bool, true, false, not, _&&_}
 use mathlib.Core.List.{List}
@@ -9,9 +9,8 @@ use borrow.Author.Tests.{not-true, not-false}
 use Rattle.key.specs.Bytes.{Bytes}
 use Rattle.writing.specs.declared.Put.{Put}
 use Rattle.writing.specs.declared.Put.the-variants.{Wrote, Full}
-use Rattle.writing.specs.Puts.{Puts}
 use Rattle.writing.proofs.Puts.{length-kept}
-use Rattle.resp.specs.Reply.{Reply, encode}
+use Rattle.resp.specs.Reply.{Reply}
 use Rattle.memtable.specs.Table.{Write}
 use Rattle.memtable.specs.Versions.{Store, versionsSize, commit}
 use Rattle.memtable.specs.Layout.{storeIn, leaveWords, leaveBytes}
@@ -93,9 +92,6 @@ module _ (ws : List Write) {put : Put} (used : ℕ) (w b : List ℕ) {s : List �
   }
 
 -- ROOM AND SEQUENCES, by the words of the own writes
-pub rows-in : (own : List ℕ) (d : Bytes) (rows : ℕ) → Own own d rows → 4 * (0 + rows) ≤ length own
-rows-in own d rows o = o .rows .rows-in
-
 pub own-listed : (own : List ℕ) (d : Bytes) (rows : ℕ) → Own own d rows → Ascending (listFrom (writeAt own d) 0 rows)
 unfolding ownWrites
 own-listed own d rows o = o .rising

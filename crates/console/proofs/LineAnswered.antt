@@ -163,10 +163,7 @@ serve-is {line} {counts = counts} {i = i} {to} {n} b = go (F.given line) refl (b
     go none e r = let z : _≡_ {A = ℕ} 0 1 = cc in absurd (omega arith)
     go (some g) e r = by-test g (ltb (g .session) 16) refl e r
 
-module _ {line page page₁ held held₁ held′ page′ w w′ : Bytes} {counts counts′ : List ℕ} {filled i to n filled′ : ℕ} {l l′ : Lent} (b : Begins line filled page counts held (Serve i to n) page₁ held₁) (f : FrameCalls line i to n w page₁ l counts held₁ l′ counts′ held′ w′ filled′ page′) where
-  it : ServeIs line counts i to
-  it = serve-is b
-
+module _ {line page page₁ held held₁ held′ page′ w w′ : Bytes} {counts counts′ : List ℕ} {filled i to n filled′ : ℕ} {l l′ : Lent} (b : Begins line filled page counts held (Serve i to n) page₁ held₁) (f : FrameCalls i to n w page₁ l counts held₁ l′ counts′ held′ w′ filled′ page′) where
   frame-bytes : part (i * 8192) to held₁ ≡ heldAt counts held i ++ serve-is b .input
   frame-bytes = ap (λ (k : ℕ). part (i * 8192) k held₁) (serve-is b .end) ∙ b .bytes (record { session = i; input = serve-is b .input }) (serve-is b .given) (serve-is b .below)
 

@@ -32,7 +32,7 @@ pub data Turns (i : ℕ) (held : Bytes) : Bytes → Progress → Bytes → Lent 
       → Turns i held w₁ at₂ page₂ l₁ w′ at′ page′ l′ → Turns i held w at page l w′ at′ page′ l′
 
 -- A FRAME: begun, served in turns and ended
-pub record FrameCalls (line : Bytes) (i to n : ℕ) (w page₁ : Bytes) (l : Lent) (counts : List ℕ) (held₁ : Bytes) (l′ : Lent) (counts′ : List ℕ) (held′ w′ : Bytes) (filled′ : ℕ) (page′ : Bytes) : Type 0 where
+pub record FrameCalls (i to n : ℕ) (w page₁ : Bytes) (l : Lent) (counts : List ℕ) (held₁ : Bytes) (l′ : Lent) (counts′ : List ℕ) (held′ w′ : Bytes) (filled′ : ℕ) (page′ : Bytes) : Type 0 where
   pub w₁ : Bytes
   pub at : Progress
   pub page₂ : Bytes
@@ -56,7 +56,7 @@ pub data LineCalls (line : Bytes) (l : Lent) (counts : List ℕ) (held : Bytes) 
   answered : (n : ℕ) (page′ held′ : Bytes) → Begins line filled page counts held (Answered n) page′ held′ → LineCalls line l counts held w filled page l counts held′ w n page′
   served : (i to n : ℕ) (page₁ held₁ : Bytes) (l′ : Lent) (counts′ : List ℕ) (held′ w′ : Bytes) (filled′ : ℕ) (page′ : Bytes)
       → Begins line filled page counts held (Serve i to n) page₁ held₁
-      → FrameCalls line i to n w page₁ l counts held₁ l′ counts′ held′ w′ filled′ page′
+      → FrameCalls i to n w page₁ l counts held₁ l′ counts′ held′ w′ filled′ page′
       → LineCalls line l counts held w filled page l′ counts′ held′ w′ filled′ page′
 
 -- THE ANSWER to a line: the output has the line that the definition says behind it, with LF, and the console after it is the definition's

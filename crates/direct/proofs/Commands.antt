@@ -36,14 +36,11 @@ use Rattle.server.specs.Command.{Effect, put, live, held, raised}
 use Rattle.server.specs.Errors.{fixedReply}
 use Rattle.server.specs.Places.{argumentsAt, lengthsAt, tombstonesAt, pairsAt, PartsIn}
 use Rattle.server.proofs.PlaceLaws.{arguments-count, tombstones-count, tombstones-size, pairs-count, pairs-size}
-use Rattle.verdict.specs.Writes.{RoomForAll, HeaderIn, verdictLeft, verdictAnswer}
+use Rattle.verdict.specs.Writes.{RoomForAll, verdictLeft, verdictAnswer}
 use Rattle.verdict.specs.Served.{bufferAfter, Runs, Admitted, deletion, counted, integerText, AdmittedText, RunsText}
 use Rattle.verdict.proofs.Writes.{pair-room, pair-words, pair-bytes}
 use Rattle.answer.proofs.Finish.{Cleared}
 use Rattle.verdict.proofs.Served.{verdict-is, accepted-room, runs-written, runs-refused, answer-accepted}
-
-pub header-in : {w b : List ℕ} → Valid w b → HeaderIn w
-header-in v = record { header-in = omega (arith, v .words-hold); count-fits = v .count-fits; used-fits = v .used-fits }
 
 -- what was admitted, and then committed
 module _ {p : Reply} {ws : List Write} {used : ℕ} {out : Bytes} {w b : List ℕ} {r : Answer} {out′ : Bytes} (a : Admitted (p, ws) used out w b r out′) where

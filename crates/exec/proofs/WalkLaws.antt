@@ -142,9 +142,6 @@ module _ {s p : List ℕ} {d₀ : Bytes} {w : List ℕ} {b : Bytes} {seq : ℕ} 
         sym (take-append-drop (length d₀) (take (a .used) d))
         ∙ ap (λ (l : Bytes). l ++ drop (length d₀) (take (a .used) d)) (take-take (length d₀) (a .used) d (g .used-more) ∙ g .front)
 
-    size-is : 2 * first + 2 * count - 2 * first ≡ 2 * count
-    size-is = omega arith
-
     -- its arguments, as the code is lent them
     lent-arguments : argumentsAt 0 count (part (2 * first) (2 * first + 2 * count - 2 * first) p) (take (a .used) d) ≡ argumentsAt first count p d₀
     lent-arguments =

@@ -1,11 +1,11 @@
 -- The pieces of an output line: how each is written, and that they make the line. Assumes nothing.
-use Prim.Native.Nat.{ℕ, suc, _+_, _*_, _/_, _%_, _≤_, _<_}
+use Prim.Native.Nat.{ℕ, _+_, _*_, _/_, _%_, _≤_, _<_}
 use native.Mathlib.Numerals.{add-one}
 use native.Mathlib.Omega.{arith}
 use mathlib.Core.Path.{_≡_, refl, sym, ap, ap₂, _∙_}
 use mathlib.Core.Bool.{Bool, true, false}
 use mathlib.Core.List.{List, [], _∷_, _++_, map, append-assoc, append-nil}
-use lib.ListN.{length, take, drop, set, getD, replicate}
+use lib.ListN.{length, take, set, getD, replicate}
 use lib.Seq.{take-suc, take-all}
 use borrow.Author.Tests.{le-leb, lt-leb}
 use Rattle.key.specs.Bytes.{Bytes, concat}

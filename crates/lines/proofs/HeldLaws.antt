@@ -178,14 +178,6 @@ module _ (line : Bytes) (counts : List ℕ) (held : Bytes) {h : Head} {i slot at
   last-size : length last ≡ 8192
   last-size = is .size ∙ mid-len (slot * 8192) (slot * 8192 + 8192) held own-inside ∙ omega arith
 
-  -- the input fits, since the slot is full at most
-  held-size : at + length (inputOf (F.given line)) ≤ 8192
-  held-size = go (F.given line) refl
-    where
-      go : (o : Option F.Given) → F.given line ≡ o → at + length (inputOf o) ≤ 8192
-      go none e = omega arith
-      go (some g) e = omega (arith, whole-input line (headed line h read i told) g e)
-
   own-kept : heldAt counts (putMid (slot * 8192) (slot * 8192 + 8192 - slot * 8192) held last) slot ≡ heldAt counts held slot
   unfolding heldAt
   own-kept =

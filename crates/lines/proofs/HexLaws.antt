@@ -106,9 +106,6 @@ prefixed-more : (s : Bytes) (b : ℕ) (o : Option Bytes) → prefixed s (prefixe
 prefixed-more s b none = refl
 prefixed-more s b (some t) = ap some (sym (append-assoc s (b ∷ []) t))
 
-prefixed-none : (s : Bytes) → prefixed s none ≡ none
-prefixed-none s = refl
-
 join-byte : (o p : Option ℕ) (r : Option Bytes) {b : ℕ} → pairOf o p ≡ Byte b → joinHex o p r ≡ prefixed (b ∷ []) r
 unfolding pairOf joinHex
 join-byte none p r e = let z : _≡_ {A = ℕ} 0 1 = cc in absurd (omega arith)

@@ -4,7 +4,7 @@ use native.Mathlib.Numerals.{add-one}
 use native.Mathlib.Omega.{arith}
 use mathlib.Core.Path.{_≡_, refl, sym, ap, _∙_}
 use mathlib.Core.List.{[], _∷_, _++_}
-use lib.ListN.{length, take, drop, set, getD, length-take, length-drop, length-append}
+use lib.ListN.{length, take, drop, set, getD, length-drop, length-append}
 use lib.Seq.{take-suc, take-all, take-at, getD-append-add, getD-drop, getD-take, length-take-le}
 use borrow.Author.Tests.{le-leb, lt-leb}
 use Rattle.key.specs.Bytes.{Bytes, part}

@@ -1,6 +1,6 @@
 // An input line: two decimal digits of session, a space, 1 to 4,096 bytes of lower-case hexadecimal.
 ghost use mathlib.Core.Path.{_≡_};
-ghost use Prim.Native.Nat.{_+_, _*_, _≤_};
+ghost use Prim.Native.Nat.{_*_, _≤_};
 ghost use lib.ListN.{length};
 ghost use Rattle.calls.specs.Frames.{hexValue};
 ghost use Rattle.lines.specs.Line.{orSixteen, pairOf, Decodes, headOf, Room, LineRead};

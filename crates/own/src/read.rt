@@ -3,7 +3,7 @@ use batch::parts;
 use key::Order;
 use memtable::Found;
 ghost use mathlib.Core.Path.{_≡_};
-ghost use Prim.Native.Nat.{_*_, _<_};
+ghost use Prim.Native.Nat.{_*_};
 ghost use Rattle.key.specs.Keys.{keyBelow};
 ghost use Rattle.batch.specs.Members.{writeAt};
 ghost use Rattle.batch.specs.Settling.{KeyIn};

@@ -3,7 +3,7 @@ use crate::Seen;
 use crate::see;
 use batch::parts;
 ghost use mathlib.Core.Path.{_≡_};
-ghost use Prim.Native.Nat.{_-_, _≤_, _<_};
+ghost use Prim.Native.Nat.{_-_, _≤_};
 ghost use Rattle.memtable.specs.Rows.{Valid};
 ghost use Rattle.memtable.specs.Walk.{isLive};
 ghost use Rattle.server.specs.Command.{live};

@@ -92,8 +92,9 @@ abbrev watchesFrom : ℕ → ℕ → Bool
 watchesFrom count seq =
     sessionOk 5 (0 ∷ 0 ∷ count ∷ 0 ∷ (1 ∷ replicate 31 0) ++ (seq ∷ replicate 31 0) ++ replicate 576 0) (bytes "a" ++ replicate 10239 0)
 
-unfoldable watching : List Bool
-watching =
+-- from when a key is watched
+unfoldable watched : List Bool
+watched =
     -- a key watched again keeps its first sequence
     execAfter (line 0 "WATCH a" ∷ line 1 "SET a 1" ∷ line 0 "WATCH a" ∷ line 0 "MULTI" ∷ []) "*-1\r\n"
     -- a key watched later counts from then; EXEC reads the table as it stands
@@ -102,16 +103,33 @@ watching =
     ∷ execAfter (line 0 "WATCH a" ∷ line 1 "SET a 1" ∷ line 0 "UNWATCH" ∷ line 0 "WATCH a" ∷ line 0 "MULTI" ∷ []) "*0\r\n"
     -- so is one whose reply does not fit
     ∷ replies (answerTo (line 0 "EXEC") (after (line 1 "SET a 1" ∷ line 0 "MULTI" ∷ []) watchCut)) "*0\r\n"
-    -- EXEC without MULTI drops nothing
-    ∷ execAfter (line 0 "WATCH a" ∷ line 0 "EXEC" ∷ line 0 "SET a 1" ∷ line 0 "MULTI" ∷ []) "*-1\r\n"
-    -- one's own write: none inside EXEC, one outside it
+    ∷ []
+
+watched-holds : T (every watched)
+unfolding calls-opens watched every after
+watched-holds = tt
+
+-- what moves a watched key
+unfoldable moving : List Bool
+moving =
+    -- one's own write outside EXEC; EXEC without MULTI drops nothing
+    execAfter (line 0 "WATCH a" ∷ line 0 "EXEC" ∷ line 0 "SET a 1" ∷ line 0 "MULTI" ∷ []) "*-1\r\n"
+    -- none inside it
     ∷ execAfter (line 0 "WATCH a" ∷ line 0 "MULTI" ∷ line 0 "SET a 1" ∷ line 0 "SET a 2" ∷ []) "*2\r\n+OK\r\n+OK\r\n"
-    ∷ execAfter (line 0 "WATCH a" ∷ line 0 "SET a 1" ∷ line 0 "MULTI" ∷ []) "*-1\r\n"
     -- the same value again, and a tombstone for an absent key
     ∷ execAfter (line 0 "SET a 1" ∷ line 0 "WATCH a" ∷ line 1 "SET a 1" ∷ line 0 "MULTI" ∷ []) "*-1\r\n"
     ∷ execAfter (line 0 "WATCH a" ∷ line 1 "DEL a" ∷ line 0 "MULTI" ∷ []) "*-1\r\n"
+    ∷ []
+
+moving-holds : T (every moving)
+unfolding calls-opens moving every after
+moving-holds = tt
+
+-- what does not, and what comes before
+unfoldable refusing : List Bool
+refusing =
     -- a key merely written, counted or read causes no conflict
-    ∷ execAfter (line 0 "WATCH a" ∷ line 0 "MULTI" ∷ line 0 "INCR n" ∷ line 0 "EXISTS n" ∷ line 1 "INCR n" ∷ []) "*2\r\n:2\r\n:1\r\n"
+    execAfter (line 0 "WATCH a" ∷ line 0 "MULTI" ∷ line 0 "INCR n" ∷ line 0 "EXISTS n" ∷ line 1 "INCR n" ∷ []) "*2\r\n:2\r\n:1\r\n"
     -- conflict comes before 6
     ∷ replies (answerTo (line 0 "EXEC") (spentAfter (line 0 "WATCH a" ∷ []))) "*-1\r\n"
     ∷ eqb (answerTo (line 0 "EXEC") (spentAfter []) .number) 6
@@ -121,6 +139,6 @@ watching =
     ∷ watchesFrom 0 6
     ∷ []
 
-watching-holds : T (every watching)
-unfolding calls-opens watching every after
-watching-holds = tt
+refusing-holds : T (every refusing)
+unfolding calls-opens refusing every after
+refusing-holds = tt

@@ -17,7 +17,7 @@ use Rattle.server.specs.Session.{says, returns, queueFits, queuedReply, marked,
 use Rattle.server.specs.Sessions.{queueIn, sessionFrom, queueOf}
 use Rattle.server.specs.Errors.{fixedReply}
 use Rattle.server.specs.Held.{Held, Left}
-use Rattle.server.specs.Places.{argumentsAt, PartsIn, QueueSizes, Takes, HasRoom, queuing, Appended}
+use Rattle.server.specs.Places.{argumentsAt, PartsIn, Takes, HasRoom, queuing, Appended}
 use Rattle.sessions.proofs.Kept.{queue-held, bytes-marked}
 use Rattle.sessions.proofs.Expanding.{has-room}
 use Rattle.answer.specs.Answers.{refusal}
@@ -25,10 +25,6 @@ use Rattle.session.specs.Answers.{Answered}
 use Rattle.session.specs.Routes.{queueing}
 use Rattle.answer.proofs.Finish.{Cleared}
 use Rattle.session.proofs.Answering.{answered-wrote, answered-full, answered-number}
-
--- the sizes of the queue of a valid session
-pub sizes-held : {w : List ℕ} {b : Bytes} → Held w b → QueueSizes w
-sizes-held h = record { words = h .words; few-commands = h .few-commands; few-arguments = h .few-arguments; room = h .room }
 
 module _ {w : List ℕ} {b : Bytes} {p : List ℕ} {s : Bytes} {count : ℕ} (h : Held w b) (ps : PartsIn p s count) {takes : Bool} (t : Takes w p count takes) where
   abbrev args : Args

@@ -11,7 +11,7 @@ use Rattle.resp.specs.Reply.{encode}
 use Rattle.memtable.specs.Versions.{Store}
 use Rattle.memtable.proofs.VersionLaws.{Sound}
 use Rattle.server.specs.declared.Answer.{Answer}
-use Rattle.server.specs.Names.{Args, Row, rowOf, nameWord, arguments, controlOf}
+use Rattle.server.specs.Names.{Args, Row, rowOf, nameWord, controlOf}
 use Rattle.names.specs.Rows.{rowAt, Looked}
 use Rattle.server.specs.Command.{executedOf}
 use Rattle.server.specs.Session.{Session, Result, number, reply, Done, respond, direct, execute, marked, notQueueable}

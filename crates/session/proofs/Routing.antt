@@ -23,7 +23,7 @@ use Rattle.server.proofs.LayoutLaws.{flag-zero}
 use Rattle.session.specs.declared.routes.Step.{Step}
 use Rattle.session.specs.declared.routes.Step.the-variants.{Open, Unwatch, Clear, Reply}
 use Rattle.session.specs.declared.routes.Route.{Route}
-use Rattle.session.specs.declared.routes.Route.the-variants.{Here, Exec}
+use Rattle.session.specs.declared.routes.Route.the-variants.{Here}
 use Rattle.session.specs.declared.routes.Way.{Way}
 use Rattle.session.specs.declared.routes.Way.the-variants.{Steer, Queue, NotQueueable}
 use Rattle.session.specs.Answers.{changing, same, Steered, Unchanged}
@@ -121,17 +121,6 @@ inside-said false UNWATCH q e = let z : _≡_ {A = ℕ} 0 1 = cc in absurd (omeg
 inside-said false QUIT q e = let z : _≡_ {A = ℕ} 0 1 = cc in absurd (omega arith)
 inside-said false other q e = let z : _≡_ {A = ℕ} 0 1 = cc in absurd (omega arith)
 
-exec-said : (m : Bool) (c : Control) (q : Bool) → routeBy m c q ≡ Exec → m ≡ true
-unfolding routeBy outsideRoute
-exec-said true c q e = refl
-exec-said false MULTI q e = let z : _≡_ {A = ℕ} 0 1 = cc in absurd (omega arith)
-exec-said false EXEC q e = let z : _≡_ {A = ℕ} 0 1 = cc in absurd (omega arith)
-exec-said false DISCARD q e = let z : _≡_ {A = ℕ} 0 1 = cc in absurd (omega arith)
-exec-said false WATCH q e = let z : _≡_ {A = ℕ} 0 1 = cc in absurd (omega arith)
-exec-said false UNWATCH q e = let z : _≡_ {A = ℕ} 0 1 = cc in absurd (omega arith)
-exec-said false QUIT q e = let z : _≡_ {A = ℕ} 0 1 = cc in absurd (omega arith)
-exec-said false other q e = let z : _≡_ {A = ℕ} 0 1 = cc in absurd (omega arith)
-
 flag-set : (n : ℕ) → yes? n ≡ true → n ≡ 0 → ⊥
 flag-set n e f = let g : true ≡ false = sym e ∙ ap yes? f in let z : _≡_ {A = ℕ} 0 1 = cc in omega arith
 
@@ -141,9 +130,6 @@ module _ (w : List ℕ) (c : Control) (q : Bool) {route : Route} (e : route ≡ 
     outside = λ g. flag-zero (getD w 0 0) (outside-said (yes? (getD w 0 0)) c q (sym e ∙ f ∙ ap Here g));
     inside = λ g. flag-set (getD w 0 0) (inside-said (yes? (getD w 0 0)) c q (sym e ∙ f ∙ ap Here g));
   }
-
-  pub exec-inside : route ≡ Exec → getD w 0 0 ≡ 0 → ⊥
-  exec-inside f = flag-set (getD w 0 0) (exec-said (yes? (getD w 0 0)) c q (sym e ∙ f))
 
 -- THE STEPS, each in its arm
 pub step-asks : {way : Way} {step : Step} {w : List ℕ} {b : Bytes} → Held w b → Taken way w → way ≡ Steer step → Steerable step w

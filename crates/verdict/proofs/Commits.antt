@@ -5,9 +5,9 @@ use mathlib.Core.Path.{_≡_, refl, sym, ap, _∙_, subst}
 use mathlib.Core.List.{List, [], _∷_}
 use lib.ListN.{length}
 use Rattle.memtable.specs.Table.{Write}
-use Rattle.memtable.specs.Versions.{Version, Store, bytesOf, writesSize, commitOne, commit}
+use Rattle.memtable.specs.Versions.{Version, Store, writesSize, commitOne, commit}
 use Rattle.memtable.specs.Layout.{storeIn, leaveWords, leaveBytes}
-use Rattle.memtable.specs.Rows.{Valid, RoomForOne}
+use Rattle.memtable.specs.Rows.{Valid}
 use Rattle.verdict.specs.Writes.{RoomForAll}
 use Rattle.memtable.proofs.VersionLaws.{length-insert, size-insert}
 use Rattle.memtable.proofs.LayoutLaws.{words-left-long, bytes-left-long}
@@ -38,10 +38,6 @@ module _ {all : List Write} {w₀ b₀ w b : List ℕ} where
     commits-bytes = p .holds .bytes-are ∙ ap (λ (st : Store). leaveBytes st b₀) (sym (p .whole))
 
   module _ {wr : Write} {rest : List Write} (p : Commits all (wr ∷ rest) w₀ b₀ w b) where
-    pub commits-room : RoomForOne w (wr .0) (bytesOf (wr .1))
-    unfolding writesSize
-    commits-room = record { row-free = omega (arith, p .room .rows-free); bytes-free = omega (arith, p .room .bytes-free); seq-free = omega (arith, p .room .seqs-free) }
-
     pub commits-more : {w′ b′ : List ℕ} → w′ ≡ leaveWords (commitOne wr (storeIn w b)) w → b′ ≡ leaveBytes (commitOne wr (storeIn w b)) b
         → Commits all rest w₀ b₀ w′ b′
     unfolding commit commitOne writesSize

@@ -3,7 +3,6 @@ use batch::Verdict;
 use memtable::open::Left;
 use memtable::read;
 use server::Answer;
-use store::open;
 use writing::Put;
 ghost use mathlib.Core.Path.{_≡_};
 ghost use Prim.Native.Nat.{_-_, _*_, _≤_};

@@ -1,7 +1,7 @@
 -- `group_main::call_two` meets its contract: a walk of its MIR, by hand, since it lends an array of structs as a slice.
 -- Assumes nothing.
 use mathlib.Core.Path.{_≡_, refl, sym, subst}
-use Prim.Native.Nat.{ℕ, _<_}
+use Prim.Native.Nat.{ℕ}
 use mathlib.Core.List.{List, [], _∷_}
 use lib.ListN.{length}
 use lib.Dec.{T, lit<}
