@@ -5,9 +5,10 @@
     compare.py A B limits
     compare.py A B exhaustive LENGTH
     compare.py A B file PATH                    runs from a file (`# name` lines divide them)
-    compare.py until-number A B limits          compares each run only up to the first number (2 to 6) that A returns
+    compare.py in-domain A B limits             compares each run only up to the first line that leaves the domain of runs against the Rust
 
-A and B are command lines, or `model`. Each run is a new process. For the modes `long`, `groups` and `group-limits` the model and the
+A and B are command lines, or `model`. Each run is a new process. The domain is that of README.md; input of the modes `mixed`, `exhaustive`
+and `long` is in it, and stays in it when it is shrunk. For the modes `long`, `groups` and `group-limits` the model and the
 programs must speak that form: `model` does by itself, `frames_rust` takes the argument `long`, and groups are for `groups_rust`.
 
     compare.py model rust/frames_rust mixed 1 200
@@ -20,6 +21,8 @@ import time
 
 import generate
 import model
+
+IN_DOMAIN = ("mixed", "exhaustive", "long")  # modes of frames input
 
 
 class Program:
@@ -113,8 +116,10 @@ def as_inline(line):
     return line
 
 
-def shrink(one, two, lines, frames):
-    fails = lambda trial: differ(one, two, trial)
+def shrink(one, two, lines, frames, domain):
+    """A smallest input that differs; if `domain`, one that is in the domain."""
+    within = lambda trial: not domain or generate.lines_in_domain(trial, one.mode == "long") == len(trial)
+    fails = lambda trial: within(trial) and differ(one, two, trial)
     until = time.time() + SHRINK_SECONDS
     i = first_difference(one.answers(lines), two.answers(lines))
     if frames and fails(lines[: i + 1]):
@@ -159,17 +164,9 @@ def show(one, two, lines, text):
         print(f"    answer {i + 1} of {' '.join(name)}: {line.decode(errors='replace')[:300]} {readable(line)[:200]}")
 
 
-def before_number(program, lines):
-    """The lines before the first that is answered with a number other than 1."""
-    for i, answer in enumerate(program.answers(lines)):
-        if re.search(rb"![2-9]$", answer):
-            return lines[:i]
-    return lines
-
-
 def main(argv):
-    until_number = argv[:1] == ["until-number"]
-    argv = argv[until_number:]
+    in_domain = argv[:1] == ["in-domain"]
+    argv = argv[in_domain:]
     if len(argv) < 3:
         sys.exit(__doc__)
     mode = argv[2]
@@ -182,11 +179,11 @@ def main(argv):
     started = time.time()
     count = total = 0
     for name, lines in runs:
-        if until_number:
-            lines = before_number(one, lines)
+        if in_domain:
+            lines = lines[: generate.lines_in_domain(lines, mode == "long")]
         if differ(one, two, lines):
             show(one, two, lines, f"run `{name}` differs:")
-            small = shrink(one, two, lines, mode not in ("groups", "group-limits"))
+            small = shrink(one, two, lines, mode not in ("groups", "group-limits"), in_domain or mode in IN_DOMAIN)
             show(one, two, small, f"a smallest input ({len(small)} lines):")
             return 1
         count += 1

@@ -1,20 +1,26 @@
 #!/usr/bin/env python3
 """Generates input for the comparisons, always the same for a seed.
 
-    generate.py mixed SEED RUNS [LINES]     frames input that meets none of the numbers 2 to 9, for comparing with the Rust
-    generate.py numbers SEED RUNS [LINES]   frames input that also meets numbers, and INFO; expected answers come from the model
+    generate.py mixed SEED RUNS [LINES]     frames input for comparing with the Rust
+    generate.py watched SEED RUNS [LINES]   frames input with WATCH, writes and EXEC in any order, for comparing with the model
+    generate.py numbers SEED RUNS [LINES]   frames input that also meets numbers, and INFO, for comparing with the model
     generate.py limits                      frames input that reaches each limit exactly and one beyond
     generate.py long                        frames input for programs without the limits of 4,096 bytes: lines about 65,536 bytes
-    generate.py exhaustive LENGTH           every list of LENGTH steps of two sessions over two keys (twelve kinds of step)
+    generate.py exhaustive LENGTH           every list of LENGTH steps of two sessions over two keys (twelve kinds of step), with EXEC behind
+                                            it or else DISCARD, that is in the domain, for comparing with the Rust
+    generate.py exhaustive-watched LENGTH   every such list with EXEC behind it that leaves the domain, for comparing with the model
     generate.py groups SEED RUNS            group scripts whose capacities hold all they write, for comparing with the Rust
     generate.py group-limits SEED RUNS      group scripts that meet 6, 7 and 8
 
-A file holds several runs; each begins with a line `# name` and is for a new process, since a store keeps every version. The
-generator runs the model beside it and, for `mixed`, ends a run before the line that would meet a number.
+A file holds several runs; each begins with a line `# name` and is for a new process, since a store keeps every version.
+
+Input for comparing with the Rust is in the domain that README.md describes. The generator runs the model beside it and, for `mixed`, ends a
+run before the line that would meet a number and leaves out a line that would leave the domain in another way.
 """
 
 import itertools
 import random
+import re
 import sys
 
 import model
@@ -22,6 +28,7 @@ import model
 FRAME = model.FRAME_LIMIT
 
 NAMES = [b"GET", b"SET", b"DEL", b"EXISTS", b"MGET", b"MSET", b"INCR", b"INCRBY", b"DECR", b"PING", b"ECHO"]
+READING = [b"GET", b"EXISTS", b"MGET", b"PING", b"ECHO"]
 LISTING = [b"DBSIZE", b"KEYS", b"SCAN", b"RANGE"]
 CONTROL = [b"MULTI", b"EXEC", b"DISCARD", b"WATCH", b"UNWATCH", b"QUIT"]
 
@@ -55,20 +62,47 @@ BAD_LINES = [
 
 
 class Omitted(Exception):
-    """INFO outside MULTI, which runs against the Rust leave out."""
+    """INFO outside MULTI, or an EXEC behind a write since its session's first WATCH in force: runs against the Rust leave them out."""
 
 
-class Watched(model.Registry):
+class Domain(model.Registry):
+    def written_since_watch(self, session):
+        """Was a version added since the session's first WATCH in force?"""
+        return any(sequence < self.store.last for _, sequence in session.watched)
+
     def outside(self, session, name, args):
         if name == b"INFO":
             raise Omitted
         return super().outside(session, name, args)
 
+    def exec(self, session):
+        if self.written_since_watch(session):
+            raise Omitted
+        return super().exec(session)
 
-def frames_model():
-    frames = model.Frames()
-    frames.registry = Watched(frames.registry.store)
+
+def frames_model(long=False):
+    frames = model.Frames(long)
+    frames.registry = Domain(frames.registry.store)
     return frames
+
+
+def meets_number(answer):
+    """Does an output line show a number other than 1?"""
+    return re.search(rb"![2-9]$", answer) is not None
+
+
+def lines_in_domain(lines, long=False):
+    """How many of the lines come before the first that leaves the domain of runs against the Rust."""
+    frames = frames_model(long)
+    for i, line in enumerate(lines):
+        try:
+            answer = frames.line(line)
+        except Omitted:
+            return i
+        if meets_number(answer):
+            return i
+    return len(lines)
 
 
 # Requests as bytes
@@ -88,11 +122,12 @@ def frame_lines(session, data):
 
 
 class Mixed:
-    """Interleaved sessions over few keys, with frequent conflicts."""
+    """Interleaved sessions over few keys, in the domain of runs against the Rust."""
 
     def __init__(self, rng, lines, **fixed):
         self.rng = rng
         self.lines = lines
+        self.frames = frames_model()  # runs beside the generator
         self.count = rng.choice([1, 2, 2, 3, 3, 4, 16])
         keys = rng.sample(KEYS, rng.randint(2, 4)) + rng.sample(ODD_KEYS, rng.choice([0, 0, 1, 2, 4]))
         self.keys = keys + (KEYS if rng.random() < 0.3 else [])
@@ -103,9 +138,24 @@ class Mixed:
         self.transact = rng.choice([0.05, 0.3, 0.6])
         self.numeric = rng.choice([0.1, 0.5, 0.5])  # how many values are small numbers
         self.listing = rng.choice([0.1, 0.1, 0.5])
+        self.quiet = rng.choice([0.0, 0.7, 0.95])  # how often a session reads in place of a write while another watches
         vars(self).update(fixed)
         self.waiting = [[] for _ in range(self.count)]  # chunks of bytes that each session has still to send
         self.multi = [0] * self.count  # commands that the session means to queue still; 0 outside MULTI
+
+    def inside(self, s):
+        """Is session s inside MULTI?"""
+        return self.frames.registry.sessions[s].queue is not None
+
+    def stale(self, s):
+        """Would an EXEC of session s leave the domain?"""
+        registry = self.frames.registry
+        return registry.written_since_watch(registry.sessions[s])
+
+    def watching(self):
+        """Does a session watch, and may still EXEC?"""
+        registry = self.frames.registry
+        return any(session.watched and not registry.written_since_watch(session) for session in registry.sessions)
 
     def chance(self, p):
         return self.rng.random() < p
@@ -200,9 +250,11 @@ class Mixed:
             return self.command(self.rng.choice(NAMES))
         if self.multi[s] == 1:
             self.multi[s] = 0
-            return self.command(b"EXEC" if self.chance(0.92) else b"DISCARD")
+            return self.command(b"EXEC" if self.chance(0.92) and not self.stale(s) else b"DISCARD")
         if self.chance(self.transact):
             r = self.rng.random()
+            if r < 0.5 and self.stale(s):
+                return self.command(b"UNWATCH")
             if r < 0.4:
                 return self.command(b"WATCH")
             if r < 0.95:
@@ -214,6 +266,8 @@ class Mixed:
             return [b"QUIT"]
         if r < self.listing:
             return self.command(self.rng.choice(LISTING))
+        if self.chance(self.quiet) and self.watching():
+            return self.command(self.rng.choice(READING))
         return self.command(self.rng.choice(NAMES + [b"SET", b"SET", b"INCR", b"GET"]))
 
     def request(self, s):
@@ -287,24 +341,93 @@ class Mixed:
             self.waiting[s] = self.chunks(s)
         return b"%02d %s" % (s, self.waiting[s].pop(0).hex().encode())
 
-    def run(self, numbers):
-        """Lines of one run; unless `numbers`, it ends before the first line that meets a number other than 1."""
-        frames = model.Frames() if numbers else frames_model()
+    def answer(self, line):
+        """The model's answer, or None for a line that leaves the domain without a number; then the model is as before."""
+        registry = self.frames.registry
+        kept = registry.store.last, list(registry.store.versions), list(registry.sessions), list(self.frames.rests)
+        try:
+            return self.frames.line(line)
+        except Omitted:
+            registry.store.last, registry.store.versions, registry.sessions, self.frames.rests = kept
+            return None
+
+    def leave_out(self, line):
+        """The session goes on without that line and what it had still to send: with EXEC or DISCARD if it is inside MULTI."""
+        s = int(line[:2])
+        self.waiting[s] = []
+        self.multi[s] = 1 if self.inside(s) else 0
+
+    def run(self):
+        """Lines of one run; it ends before the first line that meets a number other than 1."""
         lines = []
         while len(lines) < self.lines:
             line = self.next_line()
-            try:
-                answer = frames.line(line)
-            except Omitted:
+            answer = self.answer(line)
+            if answer is None:
+                self.leave_out(line)
+            elif meets_number(answer):
                 break
-            if not numbers and b"!" in answer[:-1] and not answer.endswith(b"!1"):
-                break
-            lines.append(line)
+            else:
+                lines.append(line)
         return lines
 
 
-class Numbers(Mixed):
-    """The same, with large requests, so that numbers are met often."""
+class Free(Mixed):
+    """The same without the domain's limits."""
+
+    def stale(self, s):
+        return False
+
+    def watching(self):
+        return False
+
+    def run(self):
+        return [self.next_line() for _ in range(self.lines)]
+
+
+class Watched(Free):
+    """Sessions that watch few keys at different times, while all of them write."""
+
+    def __init__(self, rng, lines, **fixed):
+        chosen = {
+            "count": rng.choice([2, 3, 3, 4]),
+            "keys": rng.sample([b"a", b"b", b"n", b"m", b"", b"ab"], rng.randint(2, 6)),
+            "odd": rng.choice([0.0, 0.0, 0.02]),
+            "split": rng.choice([0.0, 0.1]),
+            "pipeline": rng.choice([0.0, 0.2, 0.6]),
+            "inline": 0.8,
+            "numeric": 0.7,
+            "write": rng.choice([0.05, 0.2, 0.5]),  # how often a session writes outside MULTI
+        }
+        super().__init__(rng, lines, **(chosen | fixed))
+
+    def key(self):
+        return self.rng.choice(self.keys)
+
+    def next_command(self, s):
+        if self.multi[s] > 1:
+            self.multi[s] -= 1
+            if self.chance(0.02):
+                return self.command(self.rng.choice(LISTING + CONTROL))
+            return self.command(self.rng.choice(NAMES))
+        if self.multi[s] == 1:
+            self.multi[s] = 0
+            return self.command(b"EXEC" if self.chance(0.95) else b"DISCARD")
+        if self.chance(self.write):
+            return self.command(self.rng.choice([b"SET", b"SET", b"DEL", b"DEL", b"MSET", b"INCR", b"DECR", b"INCRBY"]))
+        r = self.rng.random()
+        if r < 0.4:
+            return self.command(b"WATCH")
+        if r < 0.8:
+            self.multi[s] = self.rng.choice([1, 2, 3, 4])
+            return self.command(b"MULTI")
+        if r < 0.86:
+            return self.command(self.rng.choice(CONTROL))
+        return self.command(self.rng.choice(READING + LISTING))
+
+
+class Numbers(Free):
+    """Large requests, so that numbers are met often."""
 
     def __init__(self, rng, lines):
         super().__init__(rng, lines)
@@ -441,7 +564,7 @@ def limit_runs():
         run(f"{n} watched keys one by one", *[(0, watch_keys(1, i)) for i in range(n)], (1, b"SET w%d 1\n" % (n - 1)), (0, multi), (0, do))
         run(f"{n} watched keys with repeats", (0, watch_keys(n - 2)), (0, watch_keys(n)), (0, watch_keys(2)), (0, multi), (0, do))
         run(f"{n} watched keys after UNWATCH", (0, watch_keys(20, 50)), (0, b"UNWATCH\n"), (0, watch_keys(n)), (0, multi), (0, do))
-        run(f"{n} watched keys: the snapshot", (0, watch_keys(n)), (0, b"SET a 1\n"), (0, b"WATCH a\n"), (0, multi), (0, do))
+        run(f"{n} watched keys, one more behind a write", (0, watch_keys(n)), (0, b"SET a 1\n"), (0, b"WATCH a\n"), (0, multi), (0, do))
     for n in (2047, 2048, 2049):
         run(f"{n} watched bytes", (0, array_bytes([b"WATCH", b"w" * n])), (1, array_bytes([b"SET", b"w" * n, b"1"])), (0, multi), (0, do))
         run(f"{n} watched bytes in two", (0, array_bytes([b"WATCH", b"v" * 1000])), (0, array_bytes([b"WATCH", b"w" * (n - 1000), b"v" * 1000])), (0, multi), (0, do))
@@ -502,19 +625,39 @@ STEPS = [
 LISTS_IN_A_RUN = 100
 
 
-def exhaustive_runs(length):
-    """Each list has keys of its own, is followed by MULTI, EXEC and reading, and ends with a clear session."""
-    lists = itertools.product(STEPS, repeat=length)
+def step_lines(steps, last, i=0):
+    """Lines of the steps, followed by MULTI, `last`, reading, and QUIT; `i` makes its keys its own."""
+    lines = []
+    for session, text in list(steps) + [(0, b"MULTI"), (0, last), (1, b"MGET a b"), (0, b"QUIT")]:
+        words = [word + b"%d" % i if word in (b"a", b"b") else word for word in text.split()]
+        lines += frame_lines(session, inline_bytes(words))
+    return lines
+
+
+def in_domain(steps, last):
+    lines = step_lines(steps, last)
+    return lines_in_domain(lines) == len(lines)
+
+
+def lists_of_steps(length, watched):
+    """Lists of steps, each with what ends it; if `watched`, those that leave the domain, else those in it."""
+    for steps in itertools.product(STEPS, repeat=length):
+        if watched != in_domain(steps, b"EXEC"):
+            yield steps, b"EXEC"
+        elif not watched and in_domain(steps, b"DISCARD"):
+            yield steps, b"DISCARD"
+
+
+def exhaustive_runs(mode, length):
+    """Each list has keys of its own and ends with a clear session."""
+    lists = lists_of_steps(length, mode == "exhaustive-watched")
     for number in itertools.count():
         lines = []
-        for i, steps in enumerate(itertools.islice(lists, LISTS_IN_A_RUN)):
-            behind = [(0, b"MULTI"), (0, b"EXEC"), (1, b"MGET a b"), (0, b"QUIT")]
-            for session, text in list(steps) + behind:
-                words = [word + b"%d" % i if word in (b"a", b"b") else word for word in text.split()]
-                lines += frame_lines(session, inline_bytes(words))
+        for i, (steps, last) in enumerate(itertools.islice(lists, LISTS_IN_A_RUN)):
+            lines += step_lines(steps, last, i)
         if not lines:
             return
-        yield f"exhaustive {length} {number}", lines
+        yield f"{mode} {length} {number}", lines
 
 
 # Group scripts
@@ -565,20 +708,16 @@ def runs_of(mode, seed=0, count=1, lines=300):
     if mode == "long":
         yield from long_runs()
         return
-    if mode == "exhaustive":
-        yield from exhaustive_runs(seed)
+    if mode in ("exhaustive", "exhaustive-watched"):
+        yield from exhaustive_runs(mode, seed)
         return
     for i in range(count):
         rng = random.Random(f"{mode} {seed} {i}")
         name = f"{mode} {seed} {i}"
         if mode in ("groups", "group-limits"):
             yield name, group_run(rng, mode == "group-limits")
-        elif mode == "mixed":
-            yield name, Mixed(rng, lines).run(numbers=False)
-        elif mode == "numbers":
-            yield name, Numbers(rng, lines).run(numbers=True)
         else:
-            raise ValueError(mode)
+            yield name, {"mixed": Mixed, "watched": Watched, "numbers": Numbers}[mode](rng, lines).run()
 
 
 def read_runs(data):
@@ -596,7 +735,7 @@ def read_runs(data):
 
 if __name__ == "__main__":
     mode, *rest = sys.argv[1:] or [""]
-    counts = {"mixed": 2, "numbers": 2, "limits": 0, "long": 0, "exhaustive": 1, "groups": 2, "group-limits": 2}
+    counts = {"mixed": 2, "watched": 2, "numbers": 2, "limits": 0, "long": 0, "exhaustive": 1, "exhaustive-watched": 1, "groups": 2, "group-limits": 2}
     if len(rest) < counts.get(mode, 99):
         sys.exit(__doc__)
     for name, lines in runs_of(mode, *map(int, rest)):

@@ -1,15 +1,16 @@
 #!/usr/bin/env python3
 """Writes the files under samples/, always the same.
 
-mixed-N.in       generated input (fixed seeds) that meets no number; mixed-N.out is the Rust's output
+mixed-N.in       generated input (fixed seeds) in the domain of runs against the Rust; mixed-N.out is the Rust's output
+watched.in       generated input (fixed seed) with WATCH, writes and EXEC in any order; watched.out is the model's output
 groups.in        group scripts (fixed seed) within capacities; groups.out is the Rust's output
 group-limits.in  group scripts that meet 6, 7 and 8; group-limits.out is the model's output
 limits.in        each limit reached exactly and one beyond, in one run; limits.out is the model's output
 published.in     published examples; published.out is their expected output, byte for byte (published.md lists the sources and how they were taken)
 
     make_samples.py                         the files under samples/
-    make_samples.py frames STDIN STDOUT     input and expected output for the program frames, one process: published, mixed-1 and each
-                                            limit, the store's at last
+    make_samples.py frames STDIN STDOUT     input and expected output for the program frames, one process: published, mixed-1, a part of
+                                            watched and each limit, the store's at last
 
 frames_rust must have been built (rust/build.sh). The script stops if the Rust, the model and the bytes given as published disagree.
 """
@@ -29,11 +30,13 @@ RUST = os.path.join(HERE, "rust", "frames_rust")
 RUST_GROUPS = os.path.join(HERE, "rust", "groups_rust")
 LINES = 500
 MIXED = [
-    (41, {"count": 2, "odd": 0.1, "transact": 0.3, "split": 0.1}),
-    (42, {"count": 3, "odd": 0.1, "transact": 0.6, "split": 0.0}),
-    (43, {"count": 4, "odd": 0.1, "transact": 0.3, "split": 0.3}),
-    (44, {"count": 16, "odd": 0.1, "transact": 0.3, "split": 0.1}),
+    (65, {"count": 2, "odd": 0.1, "transact": 0.3, "split": 0.1}),
+    (66, {"count": 3, "odd": 0.1, "transact": 0.6, "split": 0.0}),
+    (67, {"count": 4, "odd": 0.1, "transact": 0.3, "split": 0.3}),
+    (68, {"count": 16, "odd": 0.1, "transact": 0.3, "split": 0.1}),
 ]
+WATCHED = (53, {"count": 4, "keys": [b"a", b"b", b"n", b"m"], "odd": 0.02, "split": 0.0, "pipeline": 0.2, "write": 0.2})
+WATCHED_PART = 300  # lines of it that the program frames gets
 
 
 def text_of(lines):
@@ -60,7 +63,7 @@ def must(condition, text):
 
 # Every answer that the mixed samples must show at least once, as a pattern over replies
 WANTED = [
-    rb"\+OK", rb"\+PONG", rb"\+QUEUED", rb":\d+", rb":-\d+", rb"\$-1", rb"\$0\r\n", rb"\*-1", rb"\*0\r\n", rb"\*[1-9]", rb"-EXECABORT ",
+    rb"\+OK", rb"\+PONG", rb"\+QUEUED", rb":\d+", rb":-\d+", rb"\$-1", rb"\$0\r\n", rb"\*0\r\n", rb"\*[1-9]", rb"-EXECABORT ",
     rb"-ERR unknown command '", rb"-ERR '.*' can't be used inside MULTI", rb"-ERR value is not an integer or out of range", rb"-ERR syntax error",
     rb"-ERR increment or decrement would overflow", rb"-ERR invalid cursor", rb"-ERR LIMIT must be a non-negative integer",
     rb"-ERR SET options \(EX, NX, \.\.\.\) are not supported", rb"-ERR EXEC without MULTI", rb"-ERR DISCARD without MULTI",
@@ -76,7 +79,8 @@ WANTED = [
 def mixed():
     shown = b""
     for number, (seed, fixed) in enumerate(MIXED, 1):
-        found = generate.Mixed(random.Random(f"sample {seed}"), LINES, **fixed).run(numbers=False)
+        found = generate.Mixed(random.Random(f"sample {seed}"), LINES, **fixed).run()
+        must(len(found) == LINES, f"mixed-{number}: a number is met")
         answers = rust(found)
         must(answers == models(found), f"mixed-{number}: the model and the Rust differ")
         write(f"mixed-{number}.in", found)
@@ -85,6 +89,17 @@ def mixed():
         print(f"mixed-{number}: {len(found)} lines")
     for pattern in WANTED:
         must(re.search(pattern, shown), f"no sample shows {pattern}")
+
+
+def watched():
+    seed, fixed = WATCHED
+    lines = generate.Watched(random.Random(f"sample {seed}"), LINES, **fixed).run()
+    answers = models(lines)
+    must(not any(map(generate.meets_number, answers)), "watched: a number is met")
+    write("watched.in", lines)
+    write("watched.out", answers)
+    nil = sum(b"*-1\r\n".hex().encode() in line for line in answers)
+    print(f"watched: {len(lines)} lines, {nil} of them with an EXEC answered *-1, {sum(a != b for a, b in zip(answers, rust(lines)))} answered otherwise by the Rust")
 
 
 def limit_lines():
@@ -279,20 +294,6 @@ PUBLISHED = [
         ],
     ),
     (
-        f"{TRANSACTIONS}, optimistic locking: another client changes mykey between WATCH and EXEC, so EXEC answers the null reply",
-        [
-            (0, b"SET mykey 1\r\n", b"+OK\r\n"),
-            (0, b"WATCH mykey\r\n", b"+OK\r\n"),
-            (0, b"GET mykey\r\n", bulk_text(b"1")),
-            (1, b"SET mykey 5\r\n", b"+OK\r\n"),
-            (0, b"MULTI\r\n", b"+OK\r\n"),
-            (0, b"SET mykey 2\r\n", b"+QUEUED\r\n"),
-            (0, b"EXEC\r\n", b"*-1\r\n"),
-            (0, b"GET mykey\r\n", bulk_text(b"5")),
-            (0, b"DEL mykey\r\n", b":1\r\n"),
-        ],
-    ),
-    (
         f"{TRANSACTIONS}, WATCH explained: when EXEC is called, all keys are unwatched",
         [
             (0, b"WATCH mykey\r\n", b"+OK\r\n"),
@@ -319,34 +320,96 @@ PUBLISHED = [
     ),
 ]
 
+# The same with a write between first WATCH and EXEC: there the page alone is the yardstick, not the Rust
+BY_THE_PAGE = [
+    (
+        f"{TRANSACTIONS}, optimistic locking: another client changes mykey between WATCH and EXEC, so EXEC answers the null reply",
+        [
+            (0, b"SET mykey 1\r\n", b"+OK\r\n"),
+            (0, b"WATCH mykey\r\n", b"+OK\r\n"),
+            (0, b"GET mykey\r\n", bulk_text(b"1")),
+            (1, b"SET mykey 5\r\n", b"+OK\r\n"),
+            (0, b"MULTI\r\n", b"+OK\r\n"),
+            (0, b"SET mykey 2\r\n", b"+QUEUED\r\n"),
+            (0, b"EXEC\r\n", b"*-1\r\n"),
+            (0, b"GET mykey\r\n", bulk_text(b"5")),
+            (0, b"DEL mykey\r\n", b":1\r\n"),
+        ],
+    ),
+    (
+        f"{TRANSACTIONS}, WATCH explained: each WATCH watches for changes starting from its call",
+        [
+            (0, b"WATCH key1\r\n", b"+OK\r\n"),
+            (1, b"SET key2 5\r\n", b"+OK\r\n"),
+            (0, b"WATCH key2\r\n", b"+OK\r\n"),
+            (0, b"MULTI\r\n", b"+OK\r\n"),
+            (0, b"GET key2\r\n", b"+QUEUED\r\n"),
+            (0, b"INCR key2\r\n", b"+QUEUED\r\n"),
+            (0, b"EXEC\r\n", b"*2\r\n" + bulk_text(b"5") + b":6\r\n"),
+            (0, b"DEL key2\r\n", b":1\r\n"),
+        ],
+    ),
+    (
+        f"{TRANSACTIONS}, WATCH explained: up to the moment EXEC is called; one WATCH can name any number of keys",
+        [
+            (0, b"WATCH key1 key2\r\n", b"+OK\r\n"),
+            (0, b"MULTI\r\n", b"+OK\r\n"),
+            (0, b"SET key1 1\r\n", b"+QUEUED\r\n"),
+            (1, b"SET key2 5\r\n", b"+OK\r\n"),
+            (0, b"EXEC\r\n", b"*-1\r\n"),
+            (0, b"MGET key1 key2\r\n", b"*2\r\n$-1\r\n" + bulk_text(b"5")),
+            (0, b"DEL key2\r\n", b":1\r\n"),
+        ],
+    ),
+]
+
+
+def lines_of(examples):
+    """The lines of examples, and their answers."""
+    steps = [step for _, steps in examples for step in steps]
+    given = [line for session, request, _ in steps for line in frame_lines(session, request)]
+    return given, [b"%02d %s" % (session, reply.hex().encode()) for session, _, reply in steps]
+
+
+def must_answer(name, got, wanted):
+    must(len(got) == len(wanted), f"published: {name} answers {len(got)} lines")
+    for line, (a, b) in enumerate(zip(got, wanted), 1):
+        must(a == b, f"published line {line}: {name} answers {a}, the page {b}")
+
 
 def published():
-    given, wanted = [], []
+    judged, answers = lines_of(PUBLISHED)
+    given, wanted = lines_of(PUBLISHED + BY_THE_PAGE)
+    must(generate.lines_in_domain(judged) == len(judged), "published: an example leaves the domain")
+    for example in BY_THE_PAGE:
+        lines, _ = lines_of([example])
+        must(generate.lines_in_domain(lines) < len(lines), f"published: {example[0]}: nothing is written between WATCH and EXEC")
+    must_answer("the Rust", rust(judged), answers)
+    must_answer("the model", models(given), wanted)
     notes = [
         "# Published examples",
         "",
-        "The pages were not at hand: these examples were written down from memory, and want a comparison with the pages themselves.",
+        "The pages were not at hand: these examples were written down from memory, and want a comparison with the pages themselves. A server",
+        "(Redis 7.0.15) gave these replies, but for more text behind the unknown command's name and another order of the keys of KEYS.",
         "",
         "Lines of published.in and published.out, and where the requests and replies come from. A last DEL in an example only clears the",
         "keys for the next one. Two sessions (00, 01) are two clients. Left out are examples that document 01 narrows (commands, options,",
         "replies or texts that the Rust does not have or answers in another way).",
         "",
+        f"The Rust answers lines 1 to {len(judged)} alike. From line {len(judged) + 1} on something is written between WATCH and EXEC: there the page",
+        "alone is the yardstick (R-7 of document 02).",
+        "",
         "| Lines | Source |",
         "|---|---|",
     ]
-    for source, steps in PUBLISHED:
-        notes.append(f"| {len(given) + 1} to {len(given) + len(steps)} | {source} |")
-        for session, request, reply in steps:
-            given += frame_lines(session, request)
-            wanted.append(b"%02d %s" % (session, reply.hex().encode()))
-    for name, got in (("the Rust", rust(given)), ("the model", models(given))):
-        must(len(got) == len(wanted), f"published: {name} answers {len(got)} lines")
-        for line, (a, b) in enumerate(zip(got, wanted), 1):
-            must(a == b, f"published line {line}: {name} answers {a}, the page {b}")
+    at = 1
+    for source, steps in PUBLISHED + BY_THE_PAGE:
+        notes.append(f"| {at} to {at + len(steps) - 1} | {source} |")
+        at += len(steps)
     write("published.in", given)
     write("published.out", wanted)
     write("published.md", [note.encode() for note in notes])
-    print(f"published: {len(PUBLISHED)} examples, {len(given)} lines")
+    print(f"published: {len(PUBLISHED + BY_THE_PAGE)} examples, {len(given)} lines; the first {len(PUBLISHED)} examples, {len(judged)} lines, are the Rust's too")
 
 
 # One input for the program frames
@@ -363,6 +426,11 @@ class Told:
         for line in lines:
             self.lines.append(line)
             self.answers.append(self.frames.line(line))
+
+    def add_answered(self, lines, wanted):
+        begun = len(self.lines)
+        self.add(lines)
+        must(self.answers[begun:] == wanted, "frames: a published example is answered otherwise")
 
     def say(self, session, *requests):
         for data in requests:
@@ -429,13 +497,15 @@ def frames_told():
     told.add(EXAMPLE)
     must(told.answers == EXAMPLE_ANSWERS, "frames: the example of document 01 is answered otherwise")
     told.say(1, b"DEL n\n")
-    begun = len(told.lines)
-    told.add(read_lines("published.in"))
-    must(told.answers[begun:] == read_lines("published.out"), "frames: published is not answered as published.out says")
+    told.add_answered(*lines_of(PUBLISHED))
     told.add(read_lines("mixed-1.in"))
     told.clear_sessions()
     domain = len(told.lines)
+    must(generate.lines_in_domain(told.lines) == domain, "frames: a line leaves the domain")
     must(told.answers == rust(told.lines), "frames: the model and the Rust differ")
+    told.add_answered(*lines_of(BY_THE_PAGE))
+    told.add(read_lines("watched.in")[:WATCHED_PART])
+    told.clear_sessions()
     told.add(limit_lines())
     told.clear_sessions()
     at_the_bytes(told)
@@ -457,6 +527,7 @@ if __name__ == "__main__":
         frames(*sys.argv[2:])
     elif len(sys.argv) == 1:
         mixed()
+        watched()
         limits()
         groups()
         published()

@@ -104,14 +104,14 @@ class Mix:
         return line(session, *([name] + words if name != b"wrong" else [self.rng.choice([b"GET", b"NONE", b"EXEC"])]))
 
     def transaction(self, session):
-        """WATCH, MULTI, three commands, EXEC; now and then another session writes the watched key in between."""
+        """WATCH, MULTI, three commands, EXEC; now and then another session writes the watched key in between, and DISCARD ends it."""
         watched = self.key()
         steps = [(b"WATCH", watched), (b"MULTI",), (b"GET", watched), (b"MGET", *self.keys(3)), (b"ECHO", value(2)), (b"EXEC",)]
         lines = [line(session, *words) for words in steps]
         if self.may_write():
             self.versions += 1
             self.bytes += len(watched) + len(value(0))
-            lines.insert(2, line(4, b"SET", watched, value(0)))
+            lines[2:] = [line(4, b"SET", watched, value(0))] + lines[2:-1] + [line(session, b"DISCARD")]
         return lines
 
     def make(self):

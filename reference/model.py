@@ -1,7 +1,7 @@
 #!/usr/bin/env python3
-"""A model of document 01: requests, sessions, versions, groups and the program `frames`, slow and obvious.
+"""A model of document 01 with R-7 of document 02: requests, sessions, versions, groups and the program `frames`, slow and obvious.
 
-It is written from the document's sentences, with lists, dictionaries and sets, and shares no code with the Rust.
+It is written from the documents' sentences, with lists, dictionaries and sets, and shares no code with the Rust.
 
     model.py frames         reads and writes lines as the program `frames`
     model.py frames long    the same without the two limits of 4,096 bytes, and with a reply buffer that holds any reply
@@ -409,13 +409,12 @@ def execute(args, read, table):
 
 
 def count(key, by, read):
-    """A counter: its key is checked whatever comes of it."""
     text = read(key)
     held = 0 if text is None else whole_number(text)
     if held is None:
         return Effect(NOT_INTEGER)
     if not -(2**63) <= held + by < 2**63:
-        return Effect(err(b"increment or decrement would overflow"), [])
+        return Effect(err(b"increment or decrement would overflow"))
     return Effect(integer(held + by), [(key, decimal(held + by))])
 
 
@@ -457,17 +456,16 @@ def range_of(a, table):
     return array([bulk(item) for pair in found for item in pair])
 
 
-# Sessions (section 7)
+# Sessions (section 7, and R-7)
 
 
 class Session(NamedTuple):
     queue: Optional[tuple] = None  # None outside MULTI
     failed: bool = False
-    watched: tuple = ()  # keys, each with the last sequence at its first WATCH
+    watched: tuple = ()  # pairs, ascending: a key, and the last sequence at the WATCH that first named it
 
 
 CLEAR = Session()
-UNWATCHED = {"watched": ()}
 
 
 class Step(NamedTuple):
@@ -535,9 +533,9 @@ class Registry:
         if name == b"WATCH":
             return self.watch(session, args)
         if name == b"UNWATCH":
-            return Step(OK, session._replace(**UNWATCHED))
+            return Step(OK, session._replace(watched=()))
         effect = execute(args, lambda key: self.store.read(key, self.store.last), self.store.table)
-        self.must_fit(Member(None, effect.writes, []))
+        self.must_fit(effect.writes)
         return Step(effect.reply, session, effect.writes)
 
     def watch(self, session, args):
@@ -577,15 +575,14 @@ class Registry:
             own.update(effect.writes)
             replies.append(effect.reply)
         writes = sorted(own.items())
-        self.must_fit(Member(None, writes, []))
+        self.must_fit(writes)
         return Step(array(replies), CLEAR, writes)
 
-    def must_fit(self, member):
-        """False for a conflict; 6 and 7 leave the call."""
-        verdict = self.store.verdict(member)
-        if verdict in (6, 7):
+    def must_fit(self, writes):
+        """6 and 7 leave the call."""
+        verdict = self.store.verdict(Member(None, writes, []))
+        if verdict:
             raise Number(verdict)
-        return verdict == 0
 
     def group(self, members, verdict_room=GROUP_MEMBERS):
         """A number and the verdict bytes that are written."""
@@ -625,9 +622,11 @@ class Registry:
         if session is CLEAR:
             return False
         arguments = [argument for command in session.queue or () for argument in command]
+        keys = [key for key, _ in session.watched]
         return (
-            len(session.watched) > WATCH_KEYS
-            or sum(len(key) for key, _ in session.watched) > WATCH_BYTES
+            len(keys) > WATCH_KEYS
+            or sum(map(len, keys)) > WATCH_BYTES
+            or keys != sorted(set(keys))
             or any(sequence > self.store.last for _, sequence in session.watched)
             or len(session.queue or ()) > QUEUE_COMMANDS
             or len(arguments) > QUEUE_ARGUMENTS

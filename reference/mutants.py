@@ -18,25 +18,34 @@ SOURCE = os.path.join(os.path.dirname(os.path.abspath(__file__)), "model.py")
 # A name, the text in model.py (it stands there once), what takes its place, and the mode that must show it
 PLANTED = [
     ("only checked keys are checked", "for key in [k for k, _ in member.writes] + list(member.checks):", "for key in list(member.checks):", "groups"),
-    ("tombstones are dropped from the newest", "(s for k, s, _ in self.versions if k == key)", "(s for k, s, v in self.versions if k == key and v is not None)", "mixed"),
-    ("a second WATCH renews the sequence of a key", "{key: self.store.last for key in args[1:]} | dict(session.watched)", "dict(session.watched) | {key: self.store.last for key in args[1:]}", "mixed"),
+    ("tombstones are dropped from the newest", "(s for k, s, _ in self.versions if k == key)", "(s for k, s, v in self.versions if k == key and v is not None)", "watched"),
+    ("a repeated WATCH renews the sequence of a key", "{key: self.store.last for key in args[1:]} | dict(session.watched)", "dict(session.watched) | {key: self.store.last for key in args[1:]}", "watched"),
+    ("a later key is judged by the first key's sequence", "{key: self.store.last for key in args[1:]}", "{key: min([s for _, s in session.watched], default=self.store.last) for key in args[1:]}", "watched"),
+    ("a later WATCH renews every sequence", "watched = {key: self.store.last for key in args[1:]} | dict(session.watched)", "watched = {key: self.store.last for key in args[1:] + [k for k, _ in session.watched]}", "watched"),
+    ("a written key conflicts", "        self.must_fit(writes)\n        return Step(array(replies)", "        if self.store.verdict(Member(min([s for _, s in session.watched], default=None), writes, [])) == 1:\n            return Step(array(None), CLEAR)\n        self.must_fit(writes)\n        return Step(array(replies)", "watched"),
+    ("a moved watched key is not noticed", "if any((self.store.newest(key) or 0) > sequence for", "if False and any((self.store.newest(key) or 0) > sequence for", "watched"),
+    ("only the first watched key is looked at", "> sequence for key, sequence in session.watched):", "> sequence for key, sequence in session.watched[:1]):", "watched"),
+    ("a version at a watched key's sequence conflicts", "(self.store.newest(key) or 0) > sequence", "(self.store.newest(key) or 0) >= sequence > 0", "watched"),
+    ("EXEC reads at the first WATCH", "own[key] if key in own else self.store.read(key, self.store.last)", "own[key] if key in own else self.store.read(key, min([s for _, s in session.watched], default=self.store.last))", "watched"),
     ("EXEC does not read its own writes", "own[key] if key in own else self.store.read(key, self.store.last)", "self.store.read(key, self.store.last)", "mixed"),
-    ("MULTI drops the watch", "session._replace(queue=(), failed=False)", "Session(queue=())", "mixed"),
-    ("EXEC without MULTI drops the watch", "return Step(err(name + b\" without MULTI\"), session)", "return Step(err(name + b\" without MULTI\"), CLEAR)", "mixed"),
+    ("MULTI drops the watch", "session._replace(queue=(), failed=False)", "Session(queue=())", "watched"),
+    ("EXEC without MULTI drops the watch", "return Step(err(name + b\" without MULTI\"), session)", "return Step(err(name + b\" without MULTI\"), CLEAR)", "watched"),
     ("DISCARD keeps the watch", "if name == b\"DISCARD\":\n            return Step(OK, CLEAR)", "if name == b\"DISCARD\":\n            return Step(OK, session._replace(queue=None, failed=False))", "mixed"),
-    ("a conflict keeps the watch", "return Step(array(None), CLEAR)", "return Step(array(None), session._replace(queue=None))", "mixed"),
+    ("a conflict keeps the watch", "return Step(array(None), CLEAR)", "return Step(array(None), session._replace(queue=None))", "watched"),
+    ("an accepted EXEC keeps the watch", "return Step(array(replies), CLEAR, writes)", "return Step(array(replies), session._replace(queue=None), writes)", "watched"),
+    ("EXECABORT keeps the watch", "previous errors.\"), CLEAR)", "previous errors.\"), session._replace(queue=None, failed=False))", "watched"),
     ("an unknown name does not mark", "return Step(reply, session._replace(failed=True))", "return Step(reply, session)", "mixed"),
     ("nested MULTI marks", "return Step(err(b\"MULTI calls can not be nested\"), session)", "return Step(err(b\"MULTI calls can not be nested\"), session._replace(failed=True))", "mixed"),
     ("WATCH inside MULTI marks", "return Step(err(b\"WATCH inside MULTI is not allowed\"), session)", "return Step(err(b\"WATCH inside MULTI is not allowed\"), session._replace(failed=True))", "mixed"),
-    ("UNWATCH does nothing", "return Step(OK, session._replace(**UNWATCHED))", "return Step(OK, session)", "mixed"),
+    ("UNWATCH does nothing", "return Step(OK, session._replace(watched=()))", "return Step(OK, session)", "mixed"),
     ("DEL counts a key once", "sum(1 for key in a if read(key) is not None)", "sum(1 for key in set(a) if read(key) is not None)", "mixed"),
-    ("DEL of an absent key writes nothing", "[(key, None) for key in a] if name == b\"DEL\" else []", "[(key, None) for key in a if read(key) is not None] if name == b\"DEL\" else []", "mixed"),
+    ("DEL of an absent key writes nothing", "[(key, None) for key in a] if name == b\"DEL\" else []", "[(key, None) for key in a if read(key) is not None] if name == b\"DEL\" else []", "watched"),
     ("leading zeros are no number", "rb\"([+-]?)([0-9]+)\"", "rb\"([+-]?)(0|[1-9][0-9]*)\"", "mixed"),
     ("+ is no sign", "rb\"([+-]?)([0-9]+)\"", "rb\"(-?)([0-9]+)\"", "mixed"),
     ("+ is no sign of a length", "rb\"\\+?([0-9]+)\"", "rb\"([0-9]+)\"", "mixed"),
     ("the smallest number is none", "return n if -(2**63) <= n < 2**63 else None", "return n if -(2**63) < n < 2**63 else None", "mixed"),
     ("the smallest sum overflows", "if not -(2**63) <= held + by < 2**63:", "if not -(2**63) < held + by < 2**63:", "mixed"),
-    ("INCR writes the sum with +", "[(key, decimal(held + by))], [key])", "[(key, b\"+\" + decimal(held + by))], [key])", "mixed"),
+    ("INCR writes the sum with +", "[(key, decimal(held + by))])", "[(key, b\"+\" + decimal(held + by))])", "mixed"),
     ("RANGE includes its end", "start <= key < end]", "start <= key <= end]", "mixed"),
     ("SCAN's cursor goes on at the end", "follows = cursor + most < len(table)", "follows = cursor + most <= len(table)", "mixed"),
     ("SCAN counts matches", "looked_at = table[cursor : cursor + most]", "looked_at = [e for e in table[cursor:] if glob(pattern, e[0])][:most]", "mixed"),
@@ -65,7 +74,8 @@ PLANTED = [
     ("4 does not mark", "if n.number == 4:", "if False:", "limits"),
     ("1,025 versions are kept", "> self.max_versions or self.bytes_used()", "> self.max_versions + 1 or self.bytes_used()", "limits"),
     ("32,769 bytes are kept", "self.bytes_used() + size > self.max_bytes", "self.bytes_used() + size > self.max_bytes + 1", "limits"),
-    ("6 comes before a conflict", "if member.read is not None:\n            for key", "if len(self.versions) + len(member.writes) > self.max_versions:\n            return 6\n        if member.read is not None:\n            for key", "limits"),
+    ("6 comes before a conflict", "return Step(array(None), CLEAR)", "self.must_fit([(args[1], None) for args in session.queue if args[0].upper() == b\"SET\"])\n            return Step(array(None), CLEAR)", "limits"),
+    ("6 comes before a member's conflict", "if member.read is not None:\n            for key", "if len(self.versions) + len(member.writes) > self.max_versions:\n            return 6\n        if member.read is not None:\n            for key", "group-limits"),
     ("3 leaves no queue", "return Answer(3)", "self.sessions[index] = step.session\n            return Answer(3)", "limits"),
     ("65,537 bytes make a line", "if lf - start > 65536:", "if lf - start > 65537:", "long"),
     ("65,537 bytes without LF wait", "if len(data) - start > 65536:", "if len(data) - start > 65537:", "long"),
@@ -79,7 +89,7 @@ PLANTED = [
     ("65 members are taken", "len(members) > GROUP_MEMBERS or verdict_room", "len(members) > GROUP_MEMBERS + 1 or verdict_room", "group-limits"),
     ("7 comes before 6", "return 6\n        if self.last + len(member.writes) > LARGEST_SEQUENCE:\n            return 7", "return 7 if self.last + len(member.writes) > LARGEST_SEQUENCE else 6\n        if self.last + len(member.writes) > LARGEST_SEQUENCE:\n            return 7", "group-limits"),
 ]
-RUNS = {"mixed": 400, "groups": 1500, "group-limits": 1500}
+RUNS = {"mixed": 400, "watched": 400, "groups": 1500, "group-limits": 1500}
 
 
 def wrong_model(old, new):
@@ -102,7 +112,7 @@ def answer(module, mode, lines):
 
 def main(seed):
     missed = 0
-    kept = {mode: [] for mode in ("mixed", "limits", "long", "groups", "group-limits")}
+    kept = {mode: [] for mode in ("mixed", "watched", "limits", "long", "groups", "group-limits")}
     made = {mode: generate.runs_of(mode, seed, RUNS.get(mode, 1)) for mode in kept}
 
     def runs(mode):

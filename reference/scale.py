@@ -5,9 +5,10 @@
 
     scale.py rust/frames_rust target/bin/frames 1 1000000
 
-Input is made without the model: each run ends before its commands could write 1,024 versions or 32,768 bytes, so it stays in the
-domain. Where the two programs differ all the same, the model decides: a line that meets a number, or INFO outside MULTI, ends the run
-if the model and PROGRAM agree up to it, the number included; anything else is a difference, which is shown and shrunk.
+Input is made without the model and stays in the domain (README.md): each run ends before its commands could write 1,024 versions or
+32,768 bytes, and a line with an EXEC is left out if behind its session's first WATCH in force came a request that may write.
+Where the two programs differ all the same, the model decides: a line that leaves the domain ends the run if the model and PROGRAM
+agree up to it, a number included; anything else is a difference, which is shown and shrunk.
 A request counts when the Rust answered it. Empty requests and bytes that wait are sent too and not counted.
 """
 
@@ -16,6 +17,7 @@ import re
 import sys
 import time
 from collections import Counter
+from typing import NamedTuple
 
 import compare
 import generate
@@ -43,6 +45,77 @@ def writes_of(args):
     return {b"SET": 1, b"INCR": 1, b"DECR": 1, b"INCRBY": 1, b"DEL": n, b"MSET": n // 2}.get(name, 0)
 
 
+class Tracked(NamedTuple):
+    """What is known of a session without the store."""
+
+    rest: bytes = b""
+    multi: bool = False
+    queued: bool = False  # a command that may write is in the queue
+    watch: bool = False
+    stale: bool = False  # a request that may write came behind the first WATCH in force
+
+
+MAY_WRITE = {b"SET", b"DEL", b"MSET", b"INCR", b"DECR", b"INCRBY"}
+
+
+class Tracker:
+    """Follows requests without the store: a request that may write counts as a write."""
+
+    def __init__(self):
+        self.sessions = [Tracked()] * model.SESSIONS
+        self.names = Counter()
+
+    def take(self, line):
+        """Takes a line; False, and nothing changes, if it holds an EXEC inside MULTI behind what counts as a write."""
+        given = compare.frame_of(line)
+        if given is None or given[0] >= model.SESSIONS or len(given[1]) > model.FRAME_LIMIT:
+            return True
+        s, sessions, names = given[0], list(self.sessions), []
+        data = sessions[s].rest + given[1]
+        while data:
+            try:
+                args, used = model.read_request(data, model.ARGUMENT_PLACES)
+            except model.Wait:
+                break
+            except (model.ProtocolError, model.Number):
+                sessions[s], data = Tracked(), b""
+                break
+            data = data[used:]
+            if not args:
+                continue
+            names.append(args[0].upper())
+            if names[-1] == b"QUIT":
+                sessions[s], data = Tracked(), b""
+            elif not self.request(sessions, s, names[-1], len(args)):
+                return False
+        sessions[s] = sessions[s]._replace(rest=b"" if len(data) > model.FRAME_LIMIT else data)
+        self.sessions = sessions
+        self.names.update(names)
+        return True
+
+    def request(self, sessions, s, name, count):
+        session, writes = sessions[s], False
+        if not session.multi:
+            writes = name in MAY_WRITE
+            if name == b"MULTI":
+                sessions[s] = session._replace(multi=True)
+            elif name == b"WATCH" and count > 1:
+                sessions[s] = session._replace(watch=True)
+            elif name == b"UNWATCH":
+                sessions[s] = session._replace(watch=False, stale=False)
+        elif name == b"EXEC":
+            if session.stale:
+                return False
+            sessions[s], writes = Tracked(), session.queued
+        elif name == b"DISCARD":
+            sessions[s] = Tracked()
+        elif name in MAY_WRITE:
+            sessions[s] = session._replace(queued=True)
+        if writes:
+            sessions[:] = [session._replace(stale=session.watch) for session in sessions]
+        return True
+
+
 class Crowded(generate.Mixed):
     """Interleaved sessions that send several requests in a line, within the capacities of the store."""
 
@@ -56,8 +129,17 @@ class Crowded(generate.Mixed):
         self.hot = rng.choice([0.1, 0.4, 0.7])  # how many keys are the one that a session watched last
         self.edge = rng.choice([0.0, 0.2, 0.5])  # how many values and amounts lie at the ends of i64
         self.watched = None
-        self.names = Counter()
+        self.tracker = Tracker()
         self.versions = self.bytes = 0
+
+    def inside(self, s):
+        return self.tracker.sessions[s].multi
+
+    def stale(self, s):
+        return self.tracker.sessions[s].stale
+
+    def watching(self):
+        return any(session.watch and not session.stale for session in self.tracker.sessions)
 
     def key(self):
         return self.watched if self.watched is not None and self.chance(self.hot) else super().key()
@@ -82,13 +164,11 @@ class Crowded(generate.Mixed):
         n = writes_of(args)
         self.versions += n
         self.bytes += sum(map(len, args[1:])) if n else 0
-        self.names[args[0]] += 1
         return args
 
     def request(self, s):
         if self.chance(0.002):  # INFO may come only inside MULTI
             self.multi[s] = 2
-            self.names[b"INFO"] += 1
             return b"MULTI\r\nINFO\r\n"
         if self.chance(self.odd * 0.1):
             return self.rng.choice(BESIDE_FAULTS)
@@ -97,7 +177,11 @@ class Crowded(generate.Mixed):
     def run(self):
         lines = []
         while self.versions < self.most and self.bytes < MOST_BYTES:
-            lines.append(self.next_line())
+            line = self.next_line()
+            if self.tracker.take(line):
+                lines.append(line)
+            else:
+                self.leave_out(line)
         return lines
 
 
@@ -124,8 +208,6 @@ def kind_of(reply):
         if reply.startswith(b"-ERR Protocol error"):
             return "protocol error"
         return QUOTED.sub(b"'...'", reply[:-2]).decode(errors="replace")[:60]
-    if reply[:3] == b"*-1":
-        return "EXEC with a conflict (*-1)"
     if reply[:1] == b"+":
         return reply[:-2].decode()
     return {b":": "integer", b"$": "bulk string or nil", b"*": "array"}[reply[:1]]
@@ -157,7 +239,7 @@ def end_of_domain(lines, answers):
             return i
         if wanted != answers[i]:
             return None
-        if re.search(rb"![2-9]$", wanted):
+        if generate.meets_number(wanted):
             return i
     return None
 
@@ -179,7 +261,7 @@ def main(argv):
             end = end_of_domain(lines, b)
             if end is None:
                 compare.show(one, two, lines, f"run {runs} of seed {seed} differs after {requests} requests:")
-                small = compare.shrink(one, two, lines, True)
+                small = compare.shrink(one, two, lines, True, True)
                 compare.show(one, two, small, f"a smallest input ({len(small)} lines):")
                 return 1
             left += 1
@@ -187,11 +269,11 @@ def main(argv):
         runs += 1
         lines_total += len(lines)
         requests += count_replies(a, kinds)
-        names.update(made.names)
+        names.update(made.tracker.names)
         if requests // REPORT_EVERY > shown:
             shown = requests // REPORT_EVERY
             print(f"  {requests} requests, {time.time() - started:.0f} s", flush=True)
-    print(f"{requests} requests answered alike in {lines_total} lines of {runs} runs, {time.time() - started:.0f} s; {left} runs ended at a number or at INFO")
+    print(f"{requests} requests answered alike in {lines_total} lines of {runs} runs, {time.time() - started:.0f} s; {left} runs left the domain")
     print("replies:")
     for kind, n in kinds.most_common():
         print(f"  {n:8} {kind}")

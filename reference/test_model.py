@@ -1,5 +1,5 @@
 #!/usr/bin/env python3
-"""Runs the model on the readings of document 01 and on the choices where its text leaves two open. Exit status 1 on a difference."""
+"""Runs the model on the readings of document 01, on the points that its text leaves open, and on R-7. Exit status 1 on a difference."""
 
 import sys
 
@@ -137,16 +137,56 @@ same("session 16", frames(b"16 0a"), [b"16 !1"])
 same("rest and MULTI", frames(line(0, b"MULTI\n" + b"x" * 4090), line(0, b"x" * 7), line(0, b"EXEC\n")), [b"00 2b4f4b0d0a", b"00 !", b"00 2a300d0a"])
 same("CR in a line", frames(b"00 0a\r"), [b"?"])
 
+# R-7: a watch for each key. 0 and 1 are sessions
+same("a key watched again", last_reply(b"WATCH a\n", (1, b"SET a 1\n"), b"WATCH a\n", b"MULTI\n", b"EXEC\n"), b"*-1\r\n")
+same("a key watched later", last_reply(b"WATCH a\n", (1, b"SET b 1\n"), b"WATCH b\n", b"MULTI\n", b"EXEC\n"), b"*0\r\n")
+same("a key watched later, then written", last_reply(b"WATCH a\n", b"WATCH b\n", (1, b"SET b 1\n"), b"MULTI\n", b"EXEC\n"), b"*-1\r\n")
+same("a key watched again beside another", last_reply(b"WATCH a\n", (1, b"SET b 1\n"), b"WATCH a b\n", (1, b"SET a 1\n"), b"MULTI\n", b"EXEC\n"), b"*-1\r\n")
+same("first, after UNWATCH", last_reply(b"WATCH a\n", (1, b"SET a 1\n"), b"UNWATCH\n", b"WATCH a\n", b"MULTI\n", b"EXEC\n"), b"*0\r\n")
+r = registry()
+same("a WATCH whose reply does not fit", r.request(0, b"WATCH a\n", room=4).number, 3)
+same("its key is not watched", last_reply((1, b"SET a 1\n"), b"MULTI\n", b"EXEC\n", r=r), b"*0\r\n")
+same("EXEC without MULTI", last_reply(b"WATCH a\n", b"EXEC\n", b"SET a 1\n", b"MULTI\n", b"EXEC\n"), b"*-1\r\n")
+same("one's own write inside EXEC", last_reply(b"WATCH a\n", b"MULTI\n", b"SET a 1\n", b"SET a 2\n", b"EXEC\n"), b"*2\r\n+OK\r\n+OK\r\n")
+same("one's own direct write", last_reply(b"WATCH a\n", b"SET a 1\n", b"MULTI\n", b"EXEC\n"), b"*-1\r\n")
+same("the same value again", last_reply(b"SET a 1\n", b"WATCH a\n", (1, b"SET a 1\n"), b"MULTI\n", b"EXEC\n"), b"*-1\r\n")
+same("DEL of an absent key", last_reply(b"WATCH a\n", (1, b"DEL a\n"), b"MULTI\n", b"EXEC\n"), b"*-1\r\n")
+same("GET of a key not watched", last_reply(b"WATCH a\n", (1, b"SET b 1\n"), b"MULTI\n", b"GET b\n", b"EXEC\n"), b"*1\r\n$1\r\n1\r\n")
+same("a counter's key", last_reply(b"WATCH a\n", (1, b"INCR n\n"), b"MULTI\n", b"INCR n\n", b"EXEC\n"), b"*1\r\n:2\r\n")
+same("a key merely written", last_reply(b"WATCH a\n", (1, b"SET b 1\n"), b"MULTI\n", b"SET b 2\n", b"EXEC\n"), b"*1\r\n+OK\r\n")
+dropping = {
+    "EXEC": [b"MULTI\n", b"EXEC\n"],
+    "*-1": [b"SET a 0\n", b"MULTI\n", b"EXEC\n"],
+    "EXECABORT": [b"MULTI\n", b"FOO\n", b"EXEC\n"],
+    "DISCARD": [b"MULTI\n", b"DISCARD\n"],
+    "QUIT": [b"QUIT\n"],
+    "a protocol error": [b"*x\n"],
+}
+for name, steps in dropping.items():
+    same(f"{name} drops the watch", last_reply(b"WATCH a\n", *steps, (1, b"SET a 1\n"), b"MULTI\n", b"EXEC\n"), b"*0\r\n")
+r = registry()
+replies(b"WATCH a\n", b"MULTI\n", r=r)
+same("a group beside a watch", r.group([Member(0, put(b"a"), []), Member(0, put(b"b"), [b"a"])]), (0, [0, 1]))
+same("a key that a group wrote", last_reply(b"EXEC\n", r=r), b"*-1\r\n")
+full = registry(versions=1)
+same("conflict before 6", last_reply(b"WATCH a\n", b"SET a 1\n", b"MULTI\n", b"SET b 1\n", b"EXEC\n", r=full), b"*-1\r\n")
+last = registry(last=2**64 - 2)
+same("conflict before 7", last_reply(b"WATCH a\n", b"SET a 1\n", b"MULTI\n", b"SET b 1\n", b"EXEC\n", r=last), b"*-1\r\n")
+
 # 9
 session = lambda **k: model.Session(**k)
 for name, state, wanted in (
     ("a queue that holds another name", session(queue=((b"FOO",),)), 9),
     ("an empty command", session(queue=((),)), 9),
     ("33 watched keys", session(watched=tuple((b"%d" % i, 0) for i in range(33))), 9),
-    ("a sequence of a watched key above the last", session(watched=((b"a", 1),)), 9),
+    ("a key watched at 6, last 5", session(watched=((b"a", 6),)), 9),
+    ("the second key watched at 6, last 5", session(watched=((b"a", 5), (b"b", 6))), 9),
+    ("a key watched at 5, last 5", session(watched=((b"a", 5),)), 0),
+    ("watched keys out of order", session(watched=((b"b", 0), (b"a", 0))), 9),
+    ("a watched key twice", session(watched=((b"a", 0), (b"a", 1))), 9),
     ("a mark outside MULTI", session(failed=True), 0),
 ):
-    r = registry()
+    r = registry(last=5)
     r.sessions[0] = state
     same(name, r.request(3, b"PING\n").number, wanted)
 good = model.Lent([(0, 1, 1, 2), (2, 1, None, 1)], 3, 2, 4, 16, 4, b"axa" + bytes(13))

@@ -2,7 +2,8 @@
 //!
 //! Of the returned numbers it gives only 1, for a session above 15. It has no argument table, reply buffer, queue, watch or
 //! store limit, so it never writes `!2`, `!3`, `!4`, `!5` or `!6`; `!7` to `!9` cannot come about in `frames`. Input for it must
-//! meet none of them. INFO outside MULTI answers figures of the engine, so input for it leaves INFO out.
+//! meet none of them. INFO outside MULTI answers figures of the engine, so input for it leaves INFO out. EXEC goes by the snapshot
+//! of the first WATCH, so input for it writes nothing between the two.
 //!
 //! With the argument `long` the two limits of 4,096 bytes, for a frame and for a rest, are lifted.
 
