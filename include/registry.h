@@ -21,7 +21,7 @@
  * STORE. `words` has 5 + 4 * versions words, `bytes` has the capacity in bytes; longer buffers are allowed, and what lies behind the
  * capacities is never touched. Written by registry_open, then by the other calls only.
  *
- * SESSIONS. `session_words` has 16 * 645 = 10,320 words, `session_bytes` 16 * 10,240 = 163,840 bytes. Words that are all zero are
+ * SESSIONS. `session_words` has 16 * 644 = 10,304 words, `session_bytes` 16 * 10,240 = 163,840 bytes. Words that are all zero are
  * sixteen clear sessions; the bytes may then hold anything. */
 #ifndef REGISTRY_H
 #define REGISTRY_H
@@ -35,7 +35,7 @@ extern "C" {
 #endif
 
 #define REGISTRY_SESSIONS 16
-#define REGISTRY_SESSION_WORDS (16 * 645)
+#define REGISTRY_SESSION_WORDS (16 * 644)
 #define REGISTRY_SESSION_BYTES (16 * 10240)
 /* Words of a store for so many versions. */
 #define REGISTRY_STORE_WORDS(versions) (5 + 4 * (versions))

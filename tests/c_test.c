@@ -88,10 +88,16 @@ static void test_requests(void) {
     CHECK(words[0] == 2 && words[2] == 43 && words[8] == 42 && words[12] == 43);
     CHECK(holds("f", "402500") && holds("n", "1") && holds("g", NULL));
     CHECK(answers(0, "WATCH f\r\n", "+OK\r\n"));
+    CHECK(session_words[2] == 1 && session_words[4] == 1 && session_words[36] == 43 && session_bytes[0] == 'f');
     CHECK(answers(0, "MULTI\r\n", "+OK\r\n"));
     CHECK(answers(0, "SET f 1\r\n", "+QUEUED\r\n"));
+    CHECK(session_words[3] == 1 && session_words[68] == 3 && session_words[132] == 3 && session_words[133] == 1);
+    CHECK(answers(2, "WATCH n\r\n", "+OK\r\n"));
+    CHECK(answers(2, "MULTI\r\n", "+OK\r\n"));
+    CHECK(answers(2, "GET f\r\n", "+QUEUED\r\n"));
     CHECK(answers(1, "SET f 2\r\n", "+OK\r\n"));
     CHECK(answers(0, "EXEC\r\n", "*-1\r\n"));
+    CHECK(answers(2, "EXEC\r\n", "*1\r\n$1\r\n2\r\n"));
     CHECK(answers(0, "MULTI\r\n", "+OK\r\n"));
     CHECK(answers(0, "quit\r\n", "+OK\r\n"));
     CHECK(answers(0, "EXEC\r\n", "-ERR EXEC without MULTI\r\n"));
@@ -103,10 +109,19 @@ static void test_numbers(void) {
     CHECK(refuses(0, "DEL a b c d\r\n", 2));
     CHECK(refuses(0, "ECHO 0123456789012345678901234567890123456789012345678901234567890\r\n", 3));
     CHECK(refuses(0, "SET big 0123456789012345678901234567890123456789012345678901234567890\r\n", 6));
-    uint64_t kept = session_words[4];
-    session_words[4] = 1;
+    uint64_t kept = session_words[3];
+    session_words[3] = 1;
     CHECK(refuses(3, "PING\r\n", 9));
-    session_words[4] = kept;
+    session_words[3] = kept;
+    CHECK(answers(3, "PING\r\n", "+PONG\r\n"));
+    CHECK(answers(0, "WATCH a b\r\n", "+OK\r\n"));
+    session_words[37] = 45;
+    CHECK(words[2] == 44 && refuses(3, "PING\r\n", 9));
+    session_words[37] = 44;
+    session_words[38] = 45;
+    CHECK(answers(3, "PING\r\n", "+PONG\r\n"));
+    CHECK(answers(0, "UNWATCH\r\n", "+OK\r\n"));
+    session_words[36] = 45;
     CHECK(answers(3, "PING\r\n", "+PONG\r\n"));
 }
 

@@ -2,7 +2,7 @@
 //! so the types are all that a caller has to keep. What comes back is tested before it is used as a place.
 
 pub const SESSIONS: usize = 16;
-pub const SESSION_WORDS: usize = 645;
+pub const SESSION_WORDS: usize = 644;
 pub const SESSION_BYTES: usize = 10_240;
 pub const HEADER_WORDS: usize = 5;
 pub const VERSION_WORDS: usize = 4;

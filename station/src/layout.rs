@@ -1,10 +1,12 @@
 //! The lent memory read without the library, by the tables of docs/DECISIONS.md: what it holds, and whether it gives 9.
 use crate::core::{HEADER_WORDS, SESSIONS, SESSION_BYTES, SESSION_WORDS, VERSION_WORDS};
 
-pub const WATCH_LENGTHS: usize = 5;
-pub const WATCH_SEQUENCES: usize = 37;
-pub const ARGUMENT_COUNTS: usize = 69;
-pub const ARGUMENT_LENGTHS: usize = 133;
+pub const WATCHED: usize = 2;
+pub const QUEUED: usize = 3;
+pub const WATCH_LENGTHS: usize = 4;
+pub const WATCH_SEQUENCES: usize = 36;
+pub const ARGUMENT_COUNTS: usize = 68;
+pub const ARGUMENT_LENGTHS: usize = 132;
 pub const WATCH_BYTES: usize = 2048;
 pub const QUEUE_BYTES: usize = 8192;
 pub const QUEUEABLE: [&[u8]; 11] = [b"GET", b"SET", b"DEL", b"EXISTS", b"MGET", b"MSET", b"INCR", b"INCRBY", b"DECR", b"PING", b"ECHO"];
@@ -52,7 +54,7 @@ fn pieces<'a>(lengths: &[u64], bytes: &'a [u8]) -> Option<Vec<&'a [u8]>> {
 }
 
 fn watch_ok(words: &[u64], bytes: &[u8], last: u64) -> bool {
-    let count = words[3];
+    let count = words[WATCHED];
     if 32 < count {
         return false;
     }
@@ -61,7 +63,7 @@ fn watch_ok(words: &[u64], bytes: &[u8], last: u64) -> bool {
 }
 
 fn queue_ok(words: &[u64], bytes: &[u8]) -> bool {
-    let count = words[4];
+    let count = words[QUEUED];
     if 64 < count || (words[0] == 0 && count != 0) {
         return false;
     }

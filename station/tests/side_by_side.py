@@ -1,8 +1,9 @@
 """side_by_side.py STATION_PORT REDIS_PORT: the same requests to both.
 
-SAME holds lists of steps whose replies are equal, byte by byte. DIFFERENT holds those where document 01 asks for another answer than
-Redis gives, each with the reason and both replies; a case of it whose replies have become equal is an error too. A step is a console
-and its words; `{k}` in a word is a prefix of that case alone, so that no case meets the keys of another.
+SAME holds lists of steps whose replies are equal, byte by byte. WATCHES holds such lists for the watch of each key (document 02, R-7), each
+with its name and the last reply. DIFFERENT holds those where the documents ask for another answer than Redis gives, each with the reason
+and both replies; a case of it whose replies have become equal is an error too. A step is a console and its words; `{k}` in a word is a
+prefix of that case alone, so that no case meets the keys of another.
 """
 import socket
 import sys
@@ -46,7 +47,24 @@ SAME = [
     ["0 QUIT"],
 ]
 
-# Name of the difference in document 01 or in what it takes from the Rust, the steps, and what each side answers to the last step.
+WATCHES = [
+    ("a key watched again", ["0 WATCH {k}a", "1 SET {k}a 1", "0 WATCH {k}a", "0 MULTI", "0 EXEC"], "*-1\r\n"),
+    ("a key watched later", ["0 WATCH {k}a", "1 SET {k}b 1", "0 WATCH {k}b", "0 MULTI", "0 EXEC"], "*0\r\n"),
+    ("a key watched later, then written", ["0 WATCH {k}a", "0 WATCH {k}b", "1 SET {k}b 1", "0 MULTI", "0 EXEC"], "*-1\r\n"),
+    ("after UNWATCH", ["0 WATCH {k}a", "1 SET {k}a 1", "0 UNWATCH", "0 WATCH {k}a", "0 MULTI", "0 EXEC"], "*0\r\n"),
+    ("after DISCARD", ["0 WATCH {k}a", "1 SET {k}a 1", "0 MULTI", "0 DISCARD", "0 WATCH {k}a", "0 MULTI", "0 EXEC"], "*0\r\n"),
+    ("after EXEC", ["0 WATCH {k}a", "0 MULTI", "0 EXEC", "1 SET {k}a 1", "0 MULTI", "0 EXEC"], "*0\r\n"),
+    ("EXEC without MULTI keeps the watch", ["0 WATCH {k}a", "0 EXEC", "0 SET {k}a 1", "0 MULTI", "0 EXEC"], "*-1\r\n"),
+    ("one's own write inside EXEC", ["0 WATCH {k}a", "0 MULTI", "0 SET {k}a 1", "0 SET {k}a 2", "0 EXEC"], "*2\r\n+OK\r\n+OK\r\n"),
+    ("one's own direct write", ["0 WATCH {k}a", "0 SET {k}a 1", "0 MULTI", "0 EXEC"], "*-1\r\n"),
+    ("the same value again", ["0 SET {k}a 1", "0 WATCH {k}a", "1 SET {k}a 1", "0 MULTI", "0 EXEC"], "*-1\r\n"),
+    ("written and deleted again", ["0 WATCH {k}a", "1 SET {k}a 1", "1 DEL {k}a", "0 MULTI", "0 EXEC"], "*-1\r\n"),
+    ("GET of a key not watched", ["0 WATCH {k}a", "1 SET {k}b 1", "0 MULTI", "0 GET {k}b", "0 EXEC"], "*1\r\n$1\r\n1\r\n"),
+    ("a key that is only written", ["0 WATCH {k}a", "1 SET {k}b 1", "0 MULTI", "0 SET {k}b 2", "0 EXEC"], "*1\r\n+OK\r\n"),
+    ("a counter's key", ["0 WATCH {k}a", "1 INCR {k}n", "0 MULTI", "0 INCR {k}n", "0 EXEC"], "*1\r\n:2\r\n"),
+]
+
+# Name of the difference in the documents or in what they take from the Rust, the steps, and what each side answers to the last step.
 DIFFERENT = [
     ("unknown command: no list of arguments", ["0 FOO a"], "-ERR unknown command 'FOO'\r\n", "-ERR unknown command 'FOO', with args beginning with: 'a' \r\n"),
     ("INFO outside MULTI is unknown", ["0 INFO nothing"], "-ERR unknown command 'INFO'\r\n", "$0\r\n\r\n"),
@@ -57,9 +75,7 @@ DIFFERENT = [
     ("a whole number may have a plus sign", ["0 INCRBY {k}n +7"], ":7\r\n", "-ERR value is not an integer or out of range\r\n"),
     ("a whole number may have leading zeros", ["0 SET {k}n 007", "0 INCR {k}n"], ":8\r\n", "-ERR value is not an integer or out of range\r\n"),
     ("-0 is 0", ["0 SET {k}n -0", "0 INCR {k}n"], ":1\r\n", "-ERR value is not an integer or out of range\r\n"),
-    ("a later WATCH adds keys to the first snapshot", ["0 WATCH {k}a", "1 SET {k}b 1", "0 WATCH {k}b", "0 MULTI", "0 EXEC"], "*-1\r\n", "*0\r\n"),
-    ("written keys are checked too", ["0 WATCH {k}a", "1 SET {k}b 1", "0 MULTI", "0 SET {k}b 2", "0 EXEC"], "*-1\r\n", "*1\r\n+OK\r\n"),
-    ("EXEC reads at the snapshot", ["0 WATCH {k}a", "1 SET {k}b 1", "0 MULTI", "0 GET {k}b", "0 EXEC"], "*1\r\n$-1\r\n", "*1\r\n$1\r\n1\r\n"),
+    ("DEL of an absent key is a write", ["0 WATCH {k}a", "1 DEL {k}a", "0 MULTI", "0 EXEC"], "*-1\r\n", "*0\r\n"),
     ("inline lines have no quoting", ["0 INLINE ECHO 'a'"], "$3\r\n'a'\r\n", "$1\r\na\r\n"),
     ("protocol errors have the Rust's text", ["0 RAW *x\r\n"], "-ERR Protocol error: invalid multibulk length 'x'\r\n", "-ERR Protocol error: invalid multibulk length\r\n"),
     ("RANGE is not of Redis", ["0 RANGE {k}a {k}b"], "*0\r\n", None),
@@ -126,12 +142,16 @@ def main():
         for step, ours, theirs in both(station, redis, steps, f"s{i}:"):
             if ours != theirs:
                 sys.exit(f"{steps}, at {step}\n station {ours!r}\n redis   {theirs!r}")
+    for i, (what, steps, due) in enumerate(WATCHES):
+        told = both(station, redis, steps, f"w{i}:")
+        if any(ours != theirs for _, ours, theirs in told) or told[-1][1] != due.encode():
+            sys.exit(f"{what}: due {due!r}, told {told}")
     for i, (why, steps, our_due, their_due) in enumerate(DIFFERENT):
         step, ours, theirs = both(station, redis, steps, f"d{i}:")[-1]
         if ours != our_due.encode() or ours == theirs or (their_due is not None and theirs != their_due.encode()):
             sys.exit(f"{why}: {steps}\n station {ours!r}, due {our_due!r}\n redis   {theirs!r}, due {their_due!r}")
         print(f"difference: {why}")
-    print(f"side_by_side.py: {len(SAME)} cases with equal replies, {len(DIFFERENT)} with the differences named")
+    print(f"side_by_side.py: {len(SAME) + len(WATCHES)} cases with equal replies, {len(DIFFERENT)} with the differences named")
 
 
 main()

@@ -2,7 +2,7 @@
 //! document 01 and leave the store that it says. Store, sessions, argument table, reply and verdicts are compared byte by byte.
 use station::core::{self, Answer, Member, Memory, SESSIONS, SESSION_BYTES, SESSION_WORDS};
 use station::groups::{lent, Group, Plain, Store};
-use station::layout::{self, ARGUMENT_COUNTS, ARGUMENT_LENGTHS, WATCH_BYTES, WATCH_LENGTHS};
+use station::layout::{self, ARGUMENT_COUNTS, ARGUMENT_LENGTHS, QUEUED, WATCHED, WATCH_BYTES, WATCH_LENGTHS, WATCH_SEQUENCES};
 use station::random::Random;
 use std::collections::BTreeMap;
 use std::process::exit;
@@ -20,7 +20,7 @@ fn open(random: &mut Random) -> Memory {
         bytes: fill(random, SIZE + BEHIND),
         session_words: vec![0; SESSIONS * SESSION_WORDS + BEHIND],
         session_bytes: fill(random, SESSIONS * SESSION_BYTES + BEHIND),
-        places: vec![77; 64],
+        places: vec![77; 80],
         reply: fill(random, 4096),
     };
     assert_eq!(core::open(&mut state.words, &state.bytes, 0, VERSIONS, SIZE), 0);
@@ -54,8 +54,11 @@ fn lived(random: &mut Random) -> Memory {
             _ => send(&mut state, 2, &[b"SET", key, b"value"]),
         }
     }
+    let full: Vec<&[u8]> = [b"WATCH".as_slice()].into_iter().chain(b"0123456789abcdefghijklmnopqrstuv".chunks(1)).collect();
     for session in 0..SESSIONS {
-        if random.once_in(2) {
+        if random.once_in(8) {
+            send(&mut state, session, &full);
+        } else if random.once_in(2) {
             send(&mut state, session, &[b"WATCH", KEYS[random.below(5)], KEYS[5 + random.below(5)], KEYS[random.below(10)]]);
         }
         if random.once_in(2) {
@@ -143,28 +146,32 @@ const DAMAGES: [(&str, Damage); 37] = [
         let i = (1..found.len()).find(|&i| !found[i].0.is_empty() && !found[i - 1].0.is_empty() && found[i - 1].0 != found[i].0)?;
         Some(s.bytes[s.words[1 + 4 * i] as usize] = 255)
     }),
-    ("more than 32 watched keys", |s, r| session_with(s, r, 3, 0).map(|at| s.session_words[at + 3] = if r.once_in(2) { 33 } else { *r.pick(&HUGE) })),
-    ("watched keys beyond their bytes", |s, r| session_with(s, r, 3, 1).map(|at| s.session_words[at + WATCH_LENGTHS] = if r.once_in(2) { 2049 } else { *r.pick(&HUGE) })),
+    ("more than 32 watched keys", |s, r| session_with(s, r, WATCHED, 0).map(|at| s.session_words[at + WATCHED] = if r.once_in(2) { 33 } else { *r.pick(&HUGE) })),
+    ("watched keys beyond their bytes", |s, r| session_with(s, r, WATCHED, 1).map(|at| s.session_words[at + WATCH_LENGTHS] = if r.once_in(2) { 2049 } else { *r.pick(&HUGE) })),
     ("watched keys out of order", |s, r| {
-        let at = session_with(s, r, 3, 2)?;
+        let at = session_with(s, r, WATCHED, 2)?;
         let bytes = at / SESSION_WORDS * SESSION_BYTES;
         s.session_words[at + WATCH_LENGTHS..][..2].fill(2);
         Some(s.session_bytes[bytes..bytes + 4].copy_from_slice(b"zzaa"))
     }),
     ("a watched key that stands twice", |s, r| {
-        let at = session_with(s, r, 3, 2)?;
+        let at = session_with(s, r, WATCHED, 2)?;
         let bytes = at / SESSION_WORDS * SESSION_BYTES;
         s.session_words[at + WATCH_LENGTHS..][..2].fill(2);
         Some(s.session_bytes[bytes..bytes + 4].copy_from_slice(b"aaaa"))
     }),
-    ("a sequence of a watched key above the last", |s, r| session_with(s, r, 3, 1).map(|at| s.session_words[at + 37] = s.words[2] + 1 + r.below(3) as u64)),
-    ("more than 64 queued commands", |s, r| session_with(s, r, 4, 1).map(|at| s.session_words[at + 4] = if r.once_in(2) { 65 } else { *r.pick(&HUGE) })),
-    ("a queued command without arguments", |s, r| session_with(s, r, 4, 1).map(|at| s.session_words[at + ARGUMENT_COUNTS] = 0)),
-    ("more than 512 queued arguments", |s, r| session_with(s, r, 4, 1).map(|at| s.session_words[at + ARGUMENT_COUNTS] = if r.once_in(2) { 513 } else { *r.pick(&HUGE) })),
-    ("queued arguments beyond their bytes", |s, r| session_with(s, r, 4, 1).map(|at| s.session_words[at + ARGUMENT_LENGTHS] = if r.once_in(2) { 8193 } else { *r.pick(&HUGE) })),
-    ("a queue outside MULTI", |s, r| session_with(s, r, 4, 1).map(|at| s.session_words[at] = 0)),
+    ("a sequence of a watched key above the last", |s, r| {
+        let at = session_with(s, r, WATCHED, 1)?;
+        let key = r.below(s.session_words[at + WATCHED] as usize);
+        Some(s.session_words[at + WATCH_SEQUENCES + key] = s.words[2] + 1 + r.below(3) as u64)
+    }),
+    ("more than 64 queued commands", |s, r| session_with(s, r, QUEUED, 1).map(|at| s.session_words[at + QUEUED] = if r.once_in(2) { 65 } else { *r.pick(&HUGE) })),
+    ("a queued command without arguments", |s, r| session_with(s, r, QUEUED, 1).map(|at| s.session_words[at + ARGUMENT_COUNTS] = 0)),
+    ("more than 512 queued arguments", |s, r| session_with(s, r, QUEUED, 1).map(|at| s.session_words[at + ARGUMENT_COUNTS] = if r.once_in(2) { 513 } else { *r.pick(&HUGE) })),
+    ("queued arguments beyond their bytes", |s, r| session_with(s, r, QUEUED, 1).map(|at| s.session_words[at + ARGUMENT_LENGTHS] = if r.once_in(2) { 8193 } else { *r.pick(&HUGE) })),
+    ("a queue outside MULTI", |s, r| session_with(s, r, QUEUED, 1).map(|at| s.session_words[at] = 0)),
     ("a queued name that is none of the eleven", |s, r| {
-        let at = session_with(s, r, 4, 1)?;
+        let at = session_with(s, r, QUEUED, 1)?;
         Some(s.session_bytes[at / SESSION_WORDS * SESSION_BYTES + WATCH_BYTES] = *r.pick(b"\x00Q!\xff"))
     }),
     ("sessions cut short", |s, r| {
@@ -173,6 +180,21 @@ const DAMAGES: [(&str, Damage); 37] = [
             true => Some(s.session_words.truncate(SESSIONS * SESSION_WORDS - cut)),
             false => Some(s.session_bytes.truncate(SESSIONS * SESSION_BYTES - cut)),
         }
+    }),
+];
+
+/// Changes of the sequences that leave a good state.
+const HARMLESS: [(&str, Damage); 2] = [
+    ("sequences of watched keys equal to the last", |s, r| {
+        let at = session_with(s, r, WATCHED, 1)?;
+        let count = s.session_words[at + WATCHED] as usize;
+        Some(s.session_words[at + WATCH_SEQUENCES..][..count].fill(s.words[2]))
+    }),
+    ("a sequence above the last behind the watched keys", |s, r| {
+        let at = r.below(SESSIONS) * SESSION_WORDS;
+        let count = s.session_words[at + WATCHED] as usize;
+        let behind = if r.once_in(2) { count } else { count + r.below(32) };
+        (behind < 32).then(|| s.session_words[at + WATCH_SEQUENCES + behind] = s.words[2] + 1 + r.below(3) as u64)
     }),
 ];
 
@@ -252,6 +274,30 @@ fn damage_states(random: &mut Random, count: usize) {
     println!("damage: {made} damaged states of {} kinds, each refused and left as it was", done.len());
 }
 
+/// Each harmless change in turn: PING is answered.
+fn harmless_states(random: &mut Random, count: usize) {
+    let mut good = lived(random);
+    let mut made = 0;
+    let mut tries = 0;
+    while made < count {
+        if tries % 500 == 0 {
+            good = lived(random);
+        }
+        let (what, change) = HARMLESS[tries % HARMLESS.len()];
+        tries += 1;
+        let mut state = good.clone();
+        if change(&mut state, random).is_none() {
+            continue;
+        }
+        let answer = state.request(random.below(SESSIONS), b"PING\r\n");
+        if answer.number != 0 {
+            fail(what, &format!("number {}", answer.number));
+        }
+        made += 1;
+    }
+    println!("damage: {made} states with sequences at the last, or above it behind the watched keys, none refused");
+}
+
 /// Any word set to any value: 9 exactly where the layout says so.
 fn random_words(random: &mut Random, count: usize) {
     let mut good = lived(random);
@@ -267,8 +313,8 @@ fn random_words(random: &mut Random, count: usize) {
             state.words[random.below(rows)] = value;
         } else {
             let session = random.below(SESSIONS) * SESSION_WORDS;
-            let word = *random.pick(&[0, 1, 2, 3, 4, 5, 6, 7, 37, 38, 69, 70, 71, 133, 134, 135, 136]);
-            state.session_words[session + word] = value;
+            let first = *random.pick(&[0, WATCH_LENGTHS, WATCH_SEQUENCES, ARGUMENT_COUNTS, ARGUMENT_LENGTHS]);
+            state.session_words[session + first + random.below(4)] = value;
         }
         let bad = !(store_ok(&state) && sessions_ok(&state));
         let mut after = state.clone();
@@ -310,7 +356,8 @@ fn any_group(random: &mut Random, last: u64) -> Vec<Plain> {
 /// A fault of the group that gives 8.
 fn break_group(group: &mut Group, verdicts: &mut Vec<u8>, random: &mut Random) {
     let member = Member { has_read: false, read: 0, first_write: 0, writes: 0, first_check: 0, checks: 0 };
-    let any = [u64::MAX, u64::MAX - 3, 1 << 62, 1 << 63, group.data.len() as u64 + 2];
+    // Each is beyond the data and beyond the rows of the table of parts.
+    let any = [u64::MAX, u64::MAX - 3, 1 << 62, 1 << 63, (group.data.len() + group.parts.len()) as u64 + 2];
     let kind = random.below(6);
     match kind {
         0 => group.members.resize(65 + random.below(3), member),
@@ -390,6 +437,7 @@ fn main() {
     };
     let mut random = Random::new(*seed);
     damage_states(&mut random, *states as usize);
+    harmless_states(&mut random, *states as usize / 10);
     random_words(&mut random, *states as usize / 2);
     groups(&mut random, *group_runs as usize);
 }

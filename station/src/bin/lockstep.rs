@@ -1,5 +1,6 @@
 //! lockstep REFERENCE SEED CALLS: the library beside a program that speaks the form of `frames`, on the same generated frames,
 //! until so many request calls were made. Prints the first line that differs and fails; a number counts as a difference.
+//! The Rust is the yardstick of an EXEC only where nothing was written between its session's first WATCH in force and the EXEC.
 use station::core;
 use station::frames::{hex, Frames, LIMIT};
 use station::random::Random;
@@ -16,12 +17,24 @@ const FAULTS: [&[u8]; 12] = [
     b"*x\r\n", b"*-1\r\n", b"*1048577\r\n", b"*1\r\nX\r\n", b"*1\r\n$x\r\n", b"*1\r\n$67108865\r\n", b"*1\r\n$4\r\nPINGxx", b"*\xff\r\n", b"*1 \r\n", b"*1\r\n\r\n", b"*+\r\n", b"*1\r\n$3\r\nPING\r\n",
 ];
 const UNKNOWN: [&[u8]; 8] = [b"FOO", b"", b"GETS", b"G\xc3\xa9T", b"G\xffT", b"foo\r\nbar", b"\xed\xa0\x80", b"PING\x00"];
+const WRITERS: [&[u8]; 6] = [b"SET", b"DEL", b"MSET", b"INCR", b"INCRBY", b"DECR"];
+
+/// A session by its requests: inside MULTI, requests since then, a watch in force, and whether something may have been written since
+/// that watch began.
+#[derive(Clone, Copy, Default)]
+struct Session {
+    multi: bool,
+    queued: usize,
+    watching: bool,
+    written: bool,
+}
 
 struct Source {
     random: Random,
     sessions: usize,
-    /// Commands that each session may have queued.
-    queued: [usize; 16],
+    state: [Session; 16],
+    /// EXECs sent inside MULTI with a watch in force.
+    watched: u64,
 }
 
 impl Source {
@@ -81,45 +94,80 @@ impl Source {
         }
     }
 
-    /// A request of a session, with the queue kept below its limit.
+    /// A request of a session, with the queue kept below its limit and DISCARD in place of an EXEC that has no yardstick.
     fn words(&mut self, session: usize) -> Vec<Vec<u8>> {
-        let full = 30 <= self.queued[session];
-        let words = match if full { 2 + self.random.below(2) } else { self.random.below(14) } {
+        let Session { multi, queued, watching, written } = self.state[session];
+        let full = 30 <= queued;
+        // A watch that has met no write soon comes to its MULTI and EXEC.
+        let soon = watching && !written && self.random.once_in(3);
+        let kind = if full { 2 + self.random.below(2) } else if soon { 1 + usize::from(multi) } else { self.random.below(14) };
+        let words = match kind {
             0 => [vec![b"WATCH".to_vec()], self.keys(3)].concat(),
             1 => vec![b"MULTI".to_vec()],
-            2 => vec![b"EXEC".to_vec()],
+            2 if multi && watching && written => vec![b"DISCARD".to_vec()],
+            2 => {
+                self.watched += u64::from(multi && watching);
+                vec![b"EXEC".to_vec()]
+            }
             3 if full || self.random.once_in(4) => vec![b"DISCARD".to_vec()],
             4 if self.random.once_in(8) => vec![b"UNWATCH".to_vec()],
             5 if self.random.once_in(40) => vec![b"quit".to_vec()],
             _ => self.command(),
         };
-        let ends = [b"EXEC".as_slice(), b"DISCARD", b"quit"].contains(&words[0].as_slice());
-        self.queued[session] = if ends { 0 } else { self.queued[session] + 1 };
+        self.follow(session, &words[0]);
         words
     }
 
-    fn request(&mut self, session: usize) -> Vec<u8> {
+    /// Keeps the sessions up to date behind a request with this name.
+    fn follow(&mut self, session: usize, name: &[u8]) {
+        let state = &mut self.state[session];
+        let writes = if state.multi { name == b"EXEC" } else { WRITERS.contains(&name) };
+        match (name, state.multi) {
+            (b"quit", _) | (b"EXEC" | b"DISCARD", true) => *state = Session::default(),
+            (_, true) => state.queued += 1,
+            (b"MULTI", false) => state.multi = true,
+            (b"WATCH", false) if !state.watching => (state.watching, state.written) = (true, false),
+            (b"UNWATCH", false) => state.watching = false,
+            _ => {}
+        }
+        if writes {
+            self.state.iter_mut().for_each(|s| s.written = true);
+        }
+    }
+
+    /// The bytes of a request, and whether it ends the session: what stands behind it in its frame is dropped.
+    fn request(&mut self, session: usize) -> (Vec<u8>, bool) {
         if self.random.once_in(60) {
-            return self.random.pick(&FAULTS).to_vec();
+            self.state[session] = Session::default();
+            return (self.random.pick(&FAULTS).to_vec(), true);
         }
         if self.random.once_in(60) {
-            return b"\r\n".to_vec();
+            return (b"\r\n".to_vec(), false);
         }
         let mut words = self.words(session);
+        let ends = words[0] == b"quit";
         if self.random.once_in(6) {
             words[0].make_ascii_lowercase();
         }
         if self.random.once_in(2) && words.iter().all(|w| !w.is_empty() && w.iter().all(|b| !b" \t\n\x0c\r".contains(b))) && words[0][0] != b'*' {
-            return [words.join(&b' '), b"\r\n".to_vec()].concat();
+            return ([words.join(&b' '), b"\r\n".to_vec()].concat(), ends);
         }
-        core::array(&words)
+        (core::array(&words), ends)
     }
 
     /// The frames of one or several requests: mostly whole, now and then cut in two.
     fn frames(&mut self) -> Vec<(usize, Vec<u8>)> {
         let session = self.random.below(self.sessions);
         let several = if self.random.once_in(10) { 1 + self.random.below(5) } else { 1 };
-        let bytes: Vec<u8> = (0..several).flat_map(|_| self.request(session)).take(LIMIT).collect();
+        let mut bytes = Vec::new();
+        for _ in 0..several {
+            let (request, ends) = self.request(session);
+            bytes.extend(request);
+            if ends {
+                bytes.extend(b"PING\r\n");
+                break;
+            }
+        }
         if self.random.once_in(10) && 1 < bytes.len() {
             let cut = 1 + self.random.below(bytes.len() - 1);
             return vec![(session, bytes[..cut].to_vec()), (session, bytes[cut..].to_vec())];
@@ -150,11 +198,11 @@ fn show_table(frames: &mut Frames, input: &mut Vec<String>, answers: &mut Vec<St
     assert_eq!(frames.read(b"no such key"), None);
 }
 
-/// One run: the lines, and the library's answers.
-fn run(seed: u64) -> (Vec<String>, Vec<String>, u64) {
+/// One run: the lines, the library's answers, the calls, and the EXECs with a watch in force.
+fn run(seed: u64) -> (Vec<String>, Vec<String>, u64, u64) {
     let mut random = Random::new(seed);
     let sessions = *random.pick(&[1, 2, 2, 3, 4, 16]);
-    let mut source = Source { random, sessions, queued: [0; 16] };
+    let mut source = Source { random, sessions, state: [Session::default(); 16], watched: 0 };
     let mut frames = Frames::open(6 * FRAMES_OF_A_RUN, 1 << 20, 1024, 1 << 20, LIMIT);
     let (mut input, mut answers) = (Vec::new(), Vec::new());
     while input.len() < FRAMES_OF_A_RUN {
@@ -165,7 +213,7 @@ fn run(seed: u64) -> (Vec<String>, Vec<String>, u64) {
         }
     }
     show_table(&mut frames, &mut input, &mut answers);
-    (input, answers, frames.calls)
+    (input, answers, frames.calls, source.watched)
 }
 
 /// What the reference answers to the lines.
@@ -188,9 +236,9 @@ fn main() {
         exit(2)
     };
     let (mut seed, calls): (u64, u64) = (seed.parse().expect("a seed"), calls.parse().expect("a count"));
-    let (mut made, mut lines, mut runs) = (0, 0, 0);
+    let (mut made, mut lines, mut runs, mut watched) = (0, 0, 0, 0);
     while made < calls {
-        let (input, answers, count) = run(seed);
+        let (input, answers, count, watched_execs) = run(seed);
         let expected = reference(program, &input);
         if let Some(i) = (0..input.len()).find(|&i| expected.get(i) != Some(&answers[i])) {
             println!("seed {seed}, line {}: {}\nreference {:?}\nlibrary   {:?}", i + 1, input[i], expected.get(i), answers[i]);
@@ -202,8 +250,9 @@ fn main() {
         }
         made += count;
         lines += input.len();
+        watched += watched_execs;
         runs += 1;
         seed += 1;
     }
-    println!("lockstep: {made} calls, {lines} lines, {runs} runs, no difference");
+    println!("lockstep: {made} calls, {lines} lines, {runs} runs, {watched} EXECs with a watch in force, no difference");
 }
