@@ -38,7 +38,7 @@ step "build" 600 bash -c build
 [ "$FAILED" = 0 ] || exit 1
 step "C" 60 bash -c c_test
 step "reference built" 600 bash -c build_reference
-for name in mixed-1 mixed-2 mixed-3 mixed-4 limits published; do
+for name in mixed-1 mixed-2 mixed-3 mixed-4 watched limits published; do
     step "sample $name" 60 bash -c 'sample "$@"' _ "$BIN/frames_lib" "$name"
 done
 for name in groups group-limits; do
@@ -46,6 +46,7 @@ for name in groups group-limits; do
 done
 step "damaged states and groups" 600 "$BIN/damage" 1 "$STATES" 30000
 step "lock step with the Rust" 900 "$BIN/lockstep" "$REFERENCE/rust/frames_rust" 1 "$CALLS"
+step "model: watches" 300 bash -c 'compare "$@"' _ model "$BIN/frames_lib" watched 1 40
 step "model: limits" 300 bash -c 'compare "$@"' _ model "$BIN/frames_lib" limits
 step "model: numbers" 300 bash -c 'compare "$@"' _ model "$BIN/frames_lib" numbers 1 20
 step "model: long lines" 300 bash -c 'compare "$@"' _ model "$BIN/frames_lib long" long

@@ -1,19 +1,16 @@
 -- Session i among the sixteen: what a callee is lent by `&mut words[at..end]` with at = i * 644 and end = at + 644, and all words
 -- with what it left in their place; the same for the bytes. Assumes nothing.
-use Prim.Native.Nat.{ℕ, suc, _+_, _-_, _*_, _<_}
+use Prim.Native.Nat.{ℕ, suc, _+_, _-_, _*_}
 use native.Mathlib.Nat.{suc-mul}
 use native.Mathlib.Omega.{arith}
 use mathlib.Core.Path.{_≡_, sym, ap, _∙_}
-use mathlib.Core.Bool.{true}
 use mathlib.Core.List.{List, _++_}
 use borrow.Rule.Slice.PartMut.{midOf, putMid}
 use lib.ListN.{take, drop}
 use lib.Seq.{drop-drop}
 use Rattle.key.specs.Bytes.{Bytes}
-use Rattle.server.specs.Sessions.{sessionFrom, sessionWords, sessionBytes, wordsOfSession, bytesOfSession, sessionAt, validSessions, leaveSessionWords, leaveSessionBytes}
+use Rattle.server.specs.Sessions.{sessionFrom, sessionWords, sessionBytes, wordsOfSession, bytesOfSession, sessionAt, leaveSessionWords, leaveSessionBytes}
 use Rattle.server.specs.Finish.{Served, SessionLeft}
-use Rattle.server.specs.Held.{Held}
-use Rattle.sessions.proofs.Kept.{session-held}
 
 -- the part of `size` elements at place i, as it is lent, and put back
 abbrev pub lentAt : ℕ → ℕ → List ℕ → List ℕ
@@ -40,9 +37,6 @@ module _ (i : ℕ) (w : List ℕ) (b : Bytes) where
   pub lent-session : sessionFrom (lentAt 644 i w) (lentAt 10240 i b) ≡ sessionAt i w b
   unfolding sessionAt
   lent-session = λ z. sessionFrom (lent-words z) (lent-bytes z)
-
-  pub lent-held : (last : ℕ) → validSessions last w b ≡ true → i < 16 → Held (lentAt 644 i w) (lentAt 10240 i b)
-  lent-held last e h = coe 1 0 (z. Held (lent-words z) (lent-bytes z)) (session-held last w b e i h)
 
   module _ {d : Served} {w₁ : List ℕ} {b₁ : Bytes} (left : SessionLeft d (lentAt 644 i w) (lentAt 10240 i b) w₁ b₁) where
     pub words-back : backAt 644 i w w₁ ≡ leaveSessionWords i (d .session) w b

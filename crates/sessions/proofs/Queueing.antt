@@ -204,9 +204,6 @@ module _ {w : List ℕ} {b : Bytes} {p : List ℕ} {s : Bytes} {count : ℕ} (h 
   unfolding queueFits
   fits-as = λ z. leb (appended-count z) 64 && leb (arguments-total z) 512 && leb (bytes-total z) 8192
 
-both-false : (a b : Bool) → a ≡ false → a && b ≡ false
-both-false a b e = rw e
-
 module _ {w : List ℕ} (q : QueueSizes w) {n : ℕ} (e : n ≡ getD w 3 0) where
   pub queue-full : {p : List ℕ} {count : ℕ} → 64 ≤ n → Takes w p count false
   queue-full h = record { is = λ b s k ps. sym (fits-as k ps ∙ rw (lt-leb (getD w 3 0 + 1) 64 (omega arith))) }
