@@ -62,7 +62,8 @@ BAD_LINES = [
 
 
 class Omitted(Exception):
-    """INFO outside MULTI, or an EXEC behind a write since its session's first WATCH in force: runs against the Rust leave them out."""
+    """What runs against the Rust leave out: INFO outside MULTI, an EXEC behind a write since its session's first WATCH in force (R-7), a command
+    that is not queued for its argument count (R-8)."""
 
 
 class Domain(model.Registry):
@@ -79,6 +80,11 @@ class Domain(model.Registry):
         if self.written_since_watch(session):
             raise Omitted
         return super().exec(session)
+
+    def inside(self, session, name, args):
+        if name in model.QUEUEABLE and model.queue_refusal(name, len(args) - 1):
+            raise Omitted
+        return super().inside(session, name, args)
 
 
 def frames_model(long=False):

@@ -336,6 +336,7 @@ def size_of(member):
 QUEUEABLE = {b"GET", b"SET", b"DEL", b"EXISTS", b"MGET", b"MSET", b"INCR", b"INCRBY", b"DECR", b"PING", b"ECHO"}
 NOT_INTEGER = err(b"value is not an integer or out of range")
 SYNTAX = err(b"syntax error")
+SET_OPTIONS = err(b"SET options (EX, NX, ...) are not supported")
 
 
 class Effect(NamedTuple):
@@ -367,6 +368,13 @@ def arity(name):
     return err(b"wrong number of arguments for '" + name.lower() + b"' command")
 
 
+def queue_refusal(name, n):
+    """The error of a command that is not queued for its n arguments, or None."""
+    if not right_count(name, n):
+        return arity(name)
+    return SET_OPTIONS if name == b"SET" and n > 2 else None
+
+
 def execute(args, read, table):
     """What a command answers and writes; `read` gives a key's value, `table` the table."""
     name, a = args[0].upper(), args[1:]
@@ -383,7 +391,7 @@ def execute(args, read, table):
         return Effect(bulk(read(a[0])))
     if name == b"SET":
         if len(a) > 2:
-            return Effect(err(b"SET options (EX, NX, ...) are not supported"))
+            return Effect(SET_OPTIONS)
         return Effect(OK, [(a[0], a[1])])
     if name in (b"DEL", b"EXISTS"):
         live = integer(sum(1 for key in a if read(key) is not None))
@@ -558,6 +566,9 @@ class Registry:
         if name not in QUEUEABLE:
             reply = err(b"'" + lossy(args[0]).upper() + b"' can't be used inside MULTI")
             return Step(reply, session._replace(failed=True))
+        refused = queue_refusal(name, len(args) - 1)
+        if refused:
+            return Step(refused, session._replace(failed=True))
         queue = session.queue + (args,)
         arguments = [argument for command in queue for argument in command]
         if len(queue) > QUEUE_COMMANDS or len(arguments) > QUEUE_ARGUMENTS or sum(map(len, arguments)) > QUEUE_BYTES:
@@ -631,7 +642,10 @@ class Registry:
             or len(session.queue or ()) > QUEUE_COMMANDS
             or len(arguments) > QUEUE_ARGUMENTS
             or sum(map(len, arguments)) > QUEUE_BYTES
-            or any(not command or command[0].upper() not in QUEUEABLE for command in session.queue or ())
+            or any(
+                not command or command[0].upper() not in QUEUEABLE or queue_refusal(command[0].upper(), len(command) - 1)
+                for command in session.queue or ()
+            )
         )
 
 

@@ -35,6 +35,8 @@ PLANTED = [
     ("an accepted EXEC keeps the watch", "return Step(array(replies), CLEAR, writes)", "return Step(array(replies), session._replace(queue=None), writes)", "watched"),
     ("EXECABORT keeps the watch", "previous errors.\"), CLEAR)", "previous errors.\"), session._replace(queue=None, failed=False))", "watched"),
     ("an unknown name does not mark", "return Step(reply, session._replace(failed=True))", "return Step(reply, session)", "mixed"),
+    ("a wrong count does not mark", "return Step(refused, session._replace(failed=True))", "return Step(refused, session)", "numbers"),
+    ("a wrong count is queued", "        if refused:\n", "        if False:\n", "numbers"),
     ("nested MULTI marks", "return Step(err(b\"MULTI calls can not be nested\"), session)", "return Step(err(b\"MULTI calls can not be nested\"), session._replace(failed=True))", "mixed"),
     ("WATCH inside MULTI marks", "return Step(err(b\"WATCH inside MULTI is not allowed\"), session)", "return Step(err(b\"WATCH inside MULTI is not allowed\"), session._replace(failed=True))", "mixed"),
     ("UNWATCH does nothing", "return Step(OK, session._replace(watched=()))", "return Step(OK, session)", "mixed"),
@@ -89,7 +91,7 @@ PLANTED = [
     ("65 members are taken", "len(members) > GROUP_MEMBERS or verdict_room", "len(members) > GROUP_MEMBERS + 1 or verdict_room", "group-limits"),
     ("7 comes before 6", "return 6\n        if self.last + len(member.writes) > LARGEST_SEQUENCE:\n            return 7", "return 7 if self.last + len(member.writes) > LARGEST_SEQUENCE else 6\n        if self.last + len(member.writes) > LARGEST_SEQUENCE:\n            return 7", "group-limits"),
 ]
-RUNS = {"mixed": 400, "watched": 400, "groups": 1500, "group-limits": 1500}
+RUNS = {"mixed": 400, "watched": 400, "numbers": 50, "groups": 1500, "group-limits": 1500}
 
 
 def wrong_model(old, new):
@@ -112,7 +114,7 @@ def answer(module, mode, lines):
 
 def main(seed):
     missed = 0
-    kept = {mode: [] for mode in ("mixed", "watched", "limits", "long", "groups", "group-limits")}
+    kept = {mode: [] for mode in ("mixed", "watched", "numbers", "limits", "long", "groups", "group-limits")}
     made = {mode: generate.runs_of(mode, seed, RUNS.get(mode, 1)) for mode in kept}
 
     def runs(mode):

@@ -96,6 +96,17 @@ replies(b"MULTI\n", *[b"PING\n"] * 64, r=r)
 same("4 or 3", r.request(0, b"PING\n", room=0).number, 4)
 same("4 marks", last_reply(b"EXEC\n", r=r), b"-EXECABORT Transaction discarded because of previous errors.\r\n")
 same("names counted", last_reply(b"MULTI\n", b"DEL" + b" k" * 511 + b"\n", b"PING\n"), b"!4")
+ABORT = b"-EXECABORT Transaction discarded because of previous errors.\r\n"
+same("a wrong count inside MULTI", replies(b"MULTI\n", b"SET a 1\n", b"SET a\n", b"EXEC\n")[2:], [b"-ERR wrong number of arguments for 'set' command\r\n", ABORT])
+same("SET with options inside MULTI", replies(b"MULTI\n", b"SET a 1 EX 5\n", b"EXEC\n")[1:], [b"-ERR SET options (EX, NX, ...) are not supported\r\n", ABORT])
+same("a wrong count of a name not queued", last_reply(b"MULTI\n", b"SCAN\n"), b"-ERR 'SCAN' can't be used inside MULTI\r\n")
+same("WATCH without keys inside MULTI", last_reply(b"MULTI\n", b"WATCH\n", b"EXEC\n"), b"*0\r\n")
+same("a wrong count before 4", last_reply(b"MULTI\n", *[b"PING\n"] * 64, b"GET\n"), b"-ERR wrong number of arguments for 'get' command\r\n")
+same("an amount that is no number is queued", last_reply(b"MULTI\n", b"INCRBY n x\n", b"EXEC\n"), b"*1\r\n-ERR value is not an integer or out of range\r\n")
+same("a wrong count outside MULTI", last_reply(b"SET a\n", b"MULTI\n", b"EXEC\n"), b"*0\r\n")
+r = registry()
+r.request(0, b"MULTI\n")
+same("a wrong count whose error does not fit", (r.request(0, b"GET\n", room=4).number, r.request(0, b"EXEC\n").reply), (3, b"*0\r\n"))
 same("4, a name not queued", last_reply(b"MULTI\n", *[b"PING\n"] * 64, b"FOO\n"), b"-ERR 'FOO' can't be used inside MULTI\r\n")
 same("watched twice", last_reply(b"WATCH " + b"k" * 1025 + b" " + b"k" * 1025 + b"\n"), b"+OK\r\n")
 many = b"WATCH" + b"".join(b" %d" % i for i in range(33)) + b"\n"
@@ -178,6 +189,12 @@ session = lambda **k: model.Session(**k)
 for name, state, wanted in (
     ("a queue that holds another name", session(queue=((b"FOO",),)), 9),
     ("an empty command", session(queue=((),)), 9),
+    ("a queued command of wrong count", session(queue=((b"GET",),)), 9),
+    ("the same, marked failed", session(queue=((b"GET",),), failed=True), 9),
+    ("a queued SET without a value", session(queue=((b"SET", b"a"),)), 9),
+    ("a queued SET with options", session(queue=((b"SET", b"a", b"1", b"EX", b"5"),)), 9),
+    ("a queued MSET of three", session(queue=((b"MSET", b"a", b"1", b"b"),)), 9),
+    ("a queued amount that is no number", session(queue=((b"INCRBY", b"a", b"x"),)), 0),
     ("33 watched keys", session(watched=tuple((b"%d" % i, 0) for i in range(33))), 9),
     ("a key watched at 6, last 5", session(watched=((b"a", 6),)), 9),
     ("the second key watched at 6, last 5", session(watched=((b"a", 5), (b"b", 6))), 9),

@@ -78,8 +78,19 @@ fn queue_ok(words: &[u64], bytes: &[u8]) -> bool {
     counts.iter().all(|n| {
         let name = parts[at].to_ascii_uppercase();
         at += *n as usize;
-        QUEUEABLE.contains(&name.as_slice())
+        QUEUEABLE.contains(&name.as_slice()) && count_ok(&name, *n - 1)
     })
+}
+
+/// Whether one of the eleven may be queued with this many arguments behind its name.
+fn count_ok(name: &[u8], count: u64) -> bool {
+    match name {
+        b"GET" | b"INCR" | b"DECR" | b"ECHO" => count == 1,
+        b"SET" | b"INCRBY" => count == 2,
+        b"MSET" => 2 <= count && count % 2 == 0,
+        b"PING" => count <= 1,
+        _ => 1 <= count,
+    }
 }
 
 /// Whether sixteen sessions give no 9 beside a store with this last sequence.

@@ -17,9 +17,9 @@ use Rattle.batch.specs.declared.Verdict.{Verdict}
 use Rattle.batch.specs.declared.Verdict.the-variants.{Accepted, Conflict, NoRoom, NoSequence, NotTaken}
 use Rattle.batch.specs.Group.{plain, anyKey, among, verdictAlone}
 use Rattle.batch.proofs.KeyLists.{among-append, any-last-all, among-last}
-use Rattle.server.specs.Names.{Args, Row, rowOf, nameWord, arguments, countRight, arity, Control, MULTI, EXEC, DISCARD, WATCH, UNWATCH, QUIT, other, controlOf}
-use Rattle.server.specs.Command.{Command, Listing, Executed, runs, lists, Effect, executedOf, commandOf, run, runQueue}
-use Rattle.server.specs.Session.{Watching, watchedKeys, Session, clear, Result, number, reply, Done, says, returns, committed, direct, addKeys, watchFits, watching, outsideMulti, queueFits, queuedReply, marked, enqueue, notQueueable, execAbort, execute, insideMulti, respondBy, respond}
+use Rattle.server.specs.Names.{Args, Row, rowOf, nameWord, arguments, countRight, withOptions, operationOf, arity, Control, MULTI, EXEC, DISCARD, WATCH, UNWATCH, QUIT, other, controlOf}
+use Rattle.server.specs.Command.{Command, Listing, Executed, runs, lists, Effect, setOptions, executedOf, commandOf, run, runQueue}
+use Rattle.server.specs.Session.{Watching, watchedKeys, Session, clear, Result, number, reply, Done, says, returns, committed, direct, addKeys, watchFits, watching, outsideMulti, queueFits, queuedReply, marked, enqueue, queueUp, notQueueable, execAbort, execute, insideMulti, respondBy, respond}
 use Rattle.server.proofs.WatchLaws.{among-adds}
 use Rattle.server.proofs.SessionLaws.{SessionSound, ranBy, writesBy, ends, execute-failed, execute-ends}
 use Rattle.calls.specs.Posting.{isReply, Item, listed, exec, Client, closed, Turn, quietly, onlyIf, turnExec, turnBy, postQueue, post, postAll, AllHold}
@@ -137,6 +137,18 @@ module _ (st : Store) (s : Session) (d : Client) (sound : Sound st) (good : Sess
       go true = rw queued-told (still st _ _ (record { queue = refl; watched = m .watched }))
       go false = tt
 
+  queue-up-follows : (q : List Args) (r : Row) (a : Args) → FollowedBy st d other (some q) a (queueUp q r a st s) (queueUp q r a st s .result)
+  unfolding queueUp turnBy
+  queue-up-follows q r a = go (countRight r (length (arguments a))) (withOptions (operationOf (r .name)) (length (arguments a)))
+    where
+      by : Bool → Bool → Done
+      by b c = cond b (cond c (says setOptions st (marked s)) (enqueue q a st s)) (says (arity r) st (marked s))
+
+      go : (b c : Bool) → FollowedBy st d other (some q) a (by b c) (by b c .result)
+      go true true = rw (error-not-queued _) (still st (marked s) d (record { queue = m .queue; watched = m .watched }))
+      go true false = enqueue-follows q a
+      go false c = unfold arity in rw (error-not-queued _) (still st (marked s) d (record { queue = m .queue; watched = m .watched }))
+
   -- an accepted EXEC
   queue-key : (b : Bytes) (k : Key) (ws : List Write) (t : Table) (cs : List Command) → ws ≡ postQueue t cs → among (itemKeys (exec cs b) t) k ≡ true → among (keysOf ws) k ≡ true
   unfolding itemKeys
@@ -199,8 +211,8 @@ module _ (st : Store) (s : Session) (d : Client) (sound : Sound st) (good : Sess
   inside-follows a q UNWATCH r e = unfold notQueueable in not-ok _ (marked s) _ (record { queue = m .queue; watched = m .watched })
   inside-follows a q other r e = go (r .queueable)
     where
-      go : (b : Bool) → FollowedBy st d other (some q) a (cond b (enqueue q a st s) (says (notQueueable (nameWord a)) st (marked s))) (cond b (enqueue q a st s) (says (notQueueable (nameWord a)) st (marked s)) .result)
-      go true = enqueue-follows q a
+      go : (b : Bool) → FollowedBy st d other (some q) a (cond b (queueUp q r a st s) (says (notQueueable (nameWord a)) st (marked s))) (cond b (queueUp q r a st s) (says (notQueueable (nameWord a)) st (marked s)) .result)
+      go true = queue-up-follows q r a
       go false = unfold notQueueable in rw (error-not-queued _) (still st (marked s) d (record { queue = m .queue; watched = m .watched }))
 
   pub respond-follows : (a : Args) → FollowedBy st d (controlOf (rowOf (nameWord a) .name)) (d .queue) a (respond a st s) (respond a st s .result)

@@ -17,9 +17,9 @@ use Rattle.memtable.proofs.VersionLaws.{Sound}
 use Rattle.batch.specs.declared.Verdict.{Verdict}
 use Rattle.batch.specs.declared.Verdict.the-variants.{Accepted, Conflict, NoRoom, NoSequence, NotTaken}
 use Rattle.batch.specs.Group.{plain, verdictByte, isAccepted, verdictAlone}
-use Rattle.server.specs.Names.{Args, Row, rowOf, nameWord, arguments, countRight, arity, Control, MULTI, EXEC, DISCARD, WATCH, UNWATCH, QUIT, other, controlOf}
-use Rattle.server.specs.Command.{Executed, runs, lists, Effect, executedOf, run}
-use Rattle.server.specs.Session.{Watching, watchedKeys, Session, clear, Result, number, reply, Done, says, returns, committed, direct, addKeys, watchFits, watching, outsideMulti, queueFits, queuedReply, marked, enqueue, notQueueable, execute, insideMulti, respondBy, respond}
+use Rattle.server.specs.Names.{Args, Row, rowOf, nameWord, arguments, countRight, withOptions, operationOf, arity, Control, MULTI, EXEC, DISCARD, WATCH, UNWATCH, QUIT, other, controlOf}
+use Rattle.server.specs.Command.{Executed, runs, lists, Effect, setOptions, executedOf, run}
+use Rattle.server.specs.Session.{Watching, watchedKeys, Session, clear, Result, number, reply, Done, says, returns, committed, direct, addKeys, watchFits, watching, outsideMulti, queueFits, queuedReply, marked, enqueue, queueUp, notQueueable, execute, insideMulti, respondBy, respond}
 use Rattle.server.proofs.SessionLaws.{SessionSound, Refuses, Kept, respond-kept, ranBy, writesBy, ends, execute-failed, execute-ends}
 use Rattle.server.specs.Finish.{Served, silent, fitted, finishBy, finish}
 use Rattle.calls.specs.Serve.{protocolError, serveReading, serve, answered}
@@ -117,6 +117,15 @@ module _ (st : Store) (s : Session) (sound : Sound st) (good : SessionSound (st 
       go true = rw queued-told (sym (or-false (s .failed)))
       go false = marks-it q n true refl
 
+  queue-up-marks : (q : List Args) (r : Row) (a : Args) → s .queue ≡ some q → Marked other true (queueUp q r a st s)
+  unfolding queueUp
+  queue-up-marks q r a n = go (countRight r (length (arguments a))) (withOptions (operationOf (r .name)) (length (arguments a)))
+    where
+      go : (b c : Bool) → Marked other true (cond b (cond c (says setOptions st (marked s)) (enqueue q a st s)) (says (arity r) st (marked s)))
+      go true true = marks-it q n _ (rw (error-not-queued _))
+      go true false = enqueue-marks q a n
+      go false c = unfold arity in marks-it q n _ (rw (error-not-queued _))
+
   inside-marks : (a : Args) (q : List Args) (c : Control) (r : Row) → s .queue ≡ some q → Marked c true (insideMulti c q r a st s)
   unfolding insideMulti markedAfter
   inside-marks a q EXEC r n = execute-marks q n
@@ -127,8 +136,8 @@ module _ (st : Store) (s : Session) (sound : Sound st) (good : SessionSound (st 
   inside-marks a q UNWATCH r n = unfold notQueueable in marks-it q n _ (rw (error-not-queued _))
   inside-marks a q other r n = go (r .queueable)
     where
-      go : (b : Bool) → Marked other true (cond b (enqueue q a st s) (says (notQueueable (nameWord a)) st (marked s)))
-      go true = enqueue-marks q a n
+      go : (b : Bool) → Marked other true (cond b (queueUp q r a st s) (says (notQueueable (nameWord a)) st (marked s)))
+      go true = queue-up-marks q r a n
       go false = unfold notQueueable in marks-it q n _ (rw (error-not-queued _))
 
   respond-marks : (a : Args) → Marked (controlOf (rowOf (nameWord a) .name)) (isOpen (s .queue)) (respond a st s)

@@ -19,9 +19,9 @@ use Rattle.batch.specs.declared.Verdict.{Verdict}
 use Rattle.batch.specs.declared.Verdict.the-variants.{Accepted, Conflict, NoRoom, NoSequence, NotTaken}
 use Rattle.batch.specs.Group.{plain, conflicts, hasRoom, hasSequences, heldKeys, judge, verdictAlone}
 use Rattle.batch.specs.Members.{groupFits}
-use Rattle.server.specs.Names.{Args, Row, rowOf, nameWord, arguments, countRight, Control, MULTI, EXEC, DISCARD, WATCH, UNWATCH, QUIT, other, controlOf}
+use Rattle.server.specs.Names.{Args, Row, rowOf, nameWord, arguments, countRight, withOptions, operationOf, Control, MULTI, EXEC, DISCARD, WATCH, UNWATCH, QUIT, other, controlOf}
 use Rattle.server.specs.Command.{Executed, runs, lists, Effect, executedOf, run}
-use Rattle.server.specs.Session.{watchedKeys, Session, Result, number, reply, Done, Decision, returns, marked, committed, direct, watching, watchFits, addKeys, outsideMulti, enqueue, queueFits, decide, apply, execute, insideMulti, respondBy, respond}
+use Rattle.server.specs.Session.{watchedKeys, Session, Result, number, reply, Done, Decision, returns, marked, committed, direct, watching, watchFits, addKeys, outsideMulti, enqueue, queueUp, queueFits, decide, apply, execute, insideMulti, respondBy, respond}
 use Rattle.server.specs.Finish.{Served, silent, fitted, finishBy, finish, replyBuffer}
 use Rattle.calls.specs.Serve.{serveReading, serve, Outcome, refused, answered}
 use Rattle.calls.specs.Calls.{Lent, valid, storeOf, sessionOf, leaveSession, leaveServed, refuses, refusesStore, open-call, request-call, group-call, verdictBuffer}
@@ -72,6 +72,11 @@ enqueue-fit : (q : List Args) (a : Args) (st : Store) (s : Session) → Fit (enq
 unfolding enqueue
 enqueue-fit q a st s = either (queueFits _) _ (returns 4 st (marked s)) s tt (omega arith, λ h. refl)
 
+queue-up-fit : (q : List Args) (r : Row) (a : Args) (st : Store) (s : Session) → Fit (queueUp q r a st s) s
+unfolding queueUp
+queue-up-fit q r a st s =
+    either (countRight r (length (arguments a))) _ _ s (either (withOptions (operationOf (r .name)) (length (arguments a))) _ (enqueue q a st s) s tt (enqueue-fit q a st s)) tt
+
 apply-fit : (v : Verdict) (d : Decision) (st : Store) (s : Session) → Fit (apply v d st s) s
 unfolding apply
 apply-fit Accepted d st s = tt
@@ -88,7 +93,7 @@ inside-fit DISCARD q r a st s = tt
 inside-fit WATCH q r a st s = tt
 inside-fit UNWATCH q r a st s = tt
 inside-fit QUIT q r a st s = tt
-inside-fit other q r a st s = either (r .queueable) (enqueue q a st s) _ s (enqueue-fit q a st s) tt
+inside-fit other q r a st s = either (r .queueable) (queueUp q r a st s) _ s (queue-up-fit q r a st s) tt
 
 respond-by-fit : (q : Option (List Args)) (r : Row) (a : Args) (st : Store) (s : Session) → Fit (respondBy q r a st s) s
 unfolding respondBy

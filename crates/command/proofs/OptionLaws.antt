@@ -17,15 +17,15 @@ use Rattle.server.specs.declared.Fixed.the-variants.{NotInteger, Syntax, Invali
 use Rattle.server.specs.Names.{Args, nameWord, arguments, sameName}
 use Rattle.server.specs.Command.{Executed, argument, fixed, notInteger, syntaxError, natural, positive, scanOptions, scanFrom, rangeOptions, rangeLimit, executedAs}
 use Rattle.server.specs.Errors.{fixedReply}
-use Rattle.command.specs.declared.Command.the-variants.{Says}
+use Rattle.command.specs.declared.Refusal.the-variants.{Says}
 use Rattle.command.specs.declared.Listing.the-variants as listing
 use Rattle.command.specs.declared.Executed.{Executed as CodeExecuted}
-use Rattle.command.specs.declared.Executed.the-variants.{Runs, Lists}
+use Rattle.command.specs.declared.Executed.the-variants.{Lists, Refused}
 use Rattle.command.specs.declared.amounts.Amount.{Amount}
 use Rattle.command.specs.declared.amounts.Amount.the-variants.{Is, Missing}
 use Rattle.command.specs.declared.options.ScanOption.{ScanOption}
 use Rattle.command.specs.declared.options.ScanOption.the-variants.{Match, Count, Wrong}
-use Rattle.command.specs.Meant.{commandMeant, patternAt, listingMeant, executedMeant, CommandCounted, ListingCounted, Counted}
+use Rattle.command.specs.Meant.{patternAt, listingMeant, refusalReply, executedMeant, ListingCounted, Counted}
 use Rattle.command.specs.Reading.{MeansAs, amountIn, scanStep, OptionIs, ScanIs}
 
 -- AN OPTION OF SCAN. Two arguments from place i on.
@@ -128,12 +128,12 @@ module _ {a : Args} {count from i pattern most : ℕ} (s : Scanning a count from
     unfolding scanStep
     scanning-count e = record { within = omega (arith, s .within); inside = s .inside; is = stepped e }
 
-    pub scanning-wrong : {f : Fixed} → r ≡ Wrong f → ScanIs a count from (Runs (Says f))
-    unfolding scanStep executedMeant commandMeant Counted CommandCounted
+    pub scanning-wrong : {f : Fixed} → r ≡ Wrong f → ScanIs a count from (Refused (Says f))
+    unfolding scanStep executedMeant refusalReply Counted
     scanning-wrong e = record { is = stepped e; counted = omega (arith, s .within) }
 
-  pub scanning-odd : length a ≡ count → count - i ≤ 1 → i < count → ScanIs a count from (Runs (Says Syntax))
-  unfolding scanOptions fixedReply executedMeant commandMeant Counted CommandCounted
+  pub scanning-odd : length a ≡ count → count - i ≤ 1 → i < count → ScanIs a count from (Refused (Says Syntax))
+  unfolding scanOptions fixedReply executedMeant refusalReply Counted
   scanning-odd l h k =
       let here : i < length a = omega (arith, l) in
       let last : length a ≤ suc i = omega (arith, l) in
@@ -161,8 +161,8 @@ module _ (a : Args) {count : ℕ} (least : 2 ≤ count) {x : Bytes} (x-is : x �
       scan-as a ∙ ap (λ (u : Option ℕ). scanFrom u (drop 2 a))
       (ap (λ (y : Bytes). natural (intArg y)) (sym x-is) ∙ ap natural (sym n-is) ∙ sym o-is ∙ sym e)
 
-  pub no-cursor : o ≡ Missing → MeansAs Scan a count (Runs (Says InvalidCursor))
-  unfolding amountIn fixedReply executedMeant commandMeant Counted CommandCounted
+  pub no-cursor : o ≡ Missing → MeansAs Scan a count (Refused (Says InvalidCursor))
+  unfolding amountIn fixedReply executedMeant refusalReply Counted
   no-cursor e = record { is = cursor-is {w = none} (ap amountIn (sym e)); counted = omega arith }
 
   pub cursor-here : {from : ℕ} → o ≡ Is from → {r : CodeExecuted} → ScanIs a count from r → MeansAs Scan a count r
@@ -170,7 +170,7 @@ module _ (a : Args) {count : ℕ} (least : 2 ≤ count) {x : Bytes} (x-is : x �
   cursor-here {from} e s = record { is = cursor-is {w = some from} (ap amountIn (sym e)) ∙ s .is; counted = s .counted }
 
 -- RANGE, by its argument count.
-range-alone : (a : Args) → length a ≡ 3 → executedAs Range (nameWord a) (arguments a) ≡ executedMeant (Lists listing.Range) a
+range-alone : (a : Args) → length a ≡ 3 → executedAs Range (nameWord a) (arguments a) ≡ executedMeant Range (Lists listing.Range) a
 unfolding executedAs rangeOptions executedMeant listingMeant
 range-alone [] h = absurd (omega arith)
 range-alone (n ∷ []) h = absurd (omega arith)
@@ -178,8 +178,8 @@ range-alone (n ∷ s ∷ []) h = absurd (omega arith)
 range-alone (n ∷ s ∷ e ∷ []) h = refl
 range-alone (n ∷ s ∷ e ∷ o ∷ a) h = absurd (omega arith)
 
-range-odd : (a : Args) → 3 ≤ length a → (length a ≡ 3 → ⊥) → (length a ≡ 5 → ⊥) → executedAs Range (nameWord a) (arguments a) ≡ executedMeant (Runs (Says Syntax)) a
-unfolding executedAs rangeOptions executedMeant commandMeant fixedReply
+range-odd : (a : Args) → 3 ≤ length a → (length a ≡ 3 → ⊥) → (length a ≡ 5 → ⊥) → executedAs Range (nameWord a) (arguments a) ≡ executedMeant Range (Refused (Says Syntax)) a
+unfolding executedAs rangeOptions executedMeant refusalReply fixedReply
 range-odd [] h j k = absurd (omega arith)
 range-odd (n ∷ []) h j k = absurd (omega arith)
 range-odd (n ∷ s ∷ []) h j k = absurd (omega arith)
@@ -205,8 +205,8 @@ module _ (a : Args) {count : ℕ} (l : length a ≡ count) where
   unfolding Counted ListingCounted
   no-limit e = record { is = range-alone a (l ∙ e); counted = omega arith }
 
-  pub odd-rest : 3 ≤ count → (count ≡ 3 → ⊥) → (count ≡ 5 → ⊥) → MeansAs Range a count (Runs (Says Syntax))
-  unfolding Counted CommandCounted
+  pub odd-rest : 3 ≤ count → (count ≡ 3 → ⊥) → (count ≡ 5 → ⊥) → MeansAs Range a count (Refused (Says Syntax))
+  unfolding Counted
   odd-rest h j k = record { is = range-odd a (omega (arith, l)) (λ e. j (sym l ∙ e)) (λ e. k (sym l ∙ e)); counted = omega arith }
 
   module _ (five : count ≡ 5) {x : Bytes} (x-is : x ≡ argument 3 a) {b : Bool} (b-is : b ≡ sameName x (bytes "LIMIT")) where
@@ -217,8 +217,8 @@ module _ (a : Args) {count : ℕ} (l : length a ≡ count) where
         ∙ ap (λ (c : Bool). cond c (rangeLimit (argument 1 a) (argument 2 a) (natural (intArg (argument 4 a)))) (fixed syntaxError))
         (ap (λ (y : Bytes). sameName y (bytes "LIMIT")) (sym x-is) ∙ sym b-is ∙ e)
 
-    pub other-option : b ≡ false → MeansAs Range a count (Runs (Says Syntax))
-    unfolding executedMeant commandMeant fixedReply Counted CommandCounted
+    pub other-option : b ≡ false → MeansAs Range a count (Refused (Says Syntax))
+    unfolding executedMeant refusalReply fixedReply Counted
     other-option e = record { is = five-as e; counted = omega arith }
 
     module _ (yes : b ≡ true) {v : Bytes} (v-is : v ≡ argument 4 a) {n : Number} (n-is : n ≡ intArg v) (o : Amount) (o-is : amountIn o ≡ natural n) where
@@ -227,8 +227,8 @@ module _ (a : Args) {count : ℕ} (l : length a ≡ count) where
           five-as yes ∙ ap (rangeLimit (argument 1 a) (argument 2 a))
           (ap (λ (y : Bytes). natural (intArg y)) (sym v-is) ∙ ap natural (sym n-is) ∙ sym o-is ∙ sym e)
 
-      pub bad-limit : o ≡ Missing → MeansAs Range a count (Runs (Says BadLimit))
-      unfolding amountIn executedMeant commandMeant fixedReply Counted CommandCounted
+      pub bad-limit : o ≡ Missing → MeansAs Range a count (Refused (Says BadLimit))
+      unfolding amountIn executedMeant refusalReply fixedReply Counted
       bad-limit e = record { is = limit-as {w = none} (ap amountIn (sym e)); counted = omega arith }
 
       pub limit-here : {most : ℕ} → o ≡ Is most → MeansAs Range a count (Lists (listing.RangeUpTo most))

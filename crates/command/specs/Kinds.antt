@@ -1,41 +1,23 @@
--- What a queued command does, in the terms in which the code runs it: pairs set, tombstones set, a counter raised, or a reply alone.
-use Prim.Native.Nat.{ℕ, _≤_}
+-- What the commands that may be queued do, in the terms in which the code runs them: pairs set, tombstones set, a counter raised, or a reply alone.
+use Prim.Native.Nat.{ℕ, _+_, _-_, _*_, _/_, _≤_}
 use mathlib.Core.Path.{_≡_}
 use mathlib.Core.List.{[], map}
 use lib.IntN.{ℤ, pos}
-use Rattle.resp.specs.Reply.{Reply, Integer, BulkString, Nil, array, bulkOr, ok}
+use Rattle.resp.specs.Reply.{Reply, Integer, BulkString, array, bulkOr, ok}
 use Rattle.memtable.specs.Table.{Reader}
-use Rattle.server.specs.Names.{Args, nameWord, arguments}
-use Rattle.server.specs.Command.{Effect, argument, pairsOf, unknownCommand, commandOf, live, held, raised, tombstone, put, run}
-use Rattle.server.specs.Errors.{fixedReply, arityOf}
-use Rattle.command.specs.declared.Command.{Command as CodeCommand}
-use Rattle.command.specs.declared.Command.the-variants as command
-use Rattle.command.specs.declared.Executed.{Executed as CodeExecuted}
-use Rattle.command.specs.declared.Executed.the-variants.{Runs, Lists}
-use Rattle.command.specs.Meant.{InPairs}
+use Rattle.server.specs.declared.Operation.{Operation}
+use Rattle.server.specs.Names.{Args, arguments}
+use Rattle.server.specs.Command.{Effect, argument, pairsOf, commandAs, live, held, raised, tombstone, put, run}
+use Rattle.server.specs.Errors.{fixedReply}
 use Rattle.command.specs.declared.Read.{Read}
-use Rattle.command.specs.declared.Read.the-variants.{Value, Live, Values, Echo, Says, Arity, Unknown, Nothing}
+use Rattle.command.specs.declared.Read.the-variants.{Value, Live, Values, Echo, Says}
 use Rattle.command.specs.declared.Kind.{Kind}
 use Rattle.command.specs.declared.Kind.the-variants.{Pairs, Tombstones, Counter, Reads}
 
--- what a command does
-unfoldable pub kindMeant : CodeCommand → Kind
-kindMeant command.Get = Reads Value
-kindMeant command.Set = Pairs
-kindMeant command.Del = Tombstones
-kindMeant command.Exists = Reads Live
-kindMeant command.Mget = Reads Values
-kindMeant command.Mset = Pairs
-kindMeant (command.Count by) = Counter by
-kindMeant command.Echo = Reads Echo
-kindMeant (command.Says f) = Reads (Says f)
-kindMeant command.Arity = Reads Arity
-kindMeant command.Unknown = Reads Unknown
-
--- one that lists is not queued
-unfoldable pub kindExecuted : CodeExecuted → Kind
-kindExecuted (Runs c) = kindMeant c
-kindExecuted (Lists l) = Reads Nothing
+-- SET and MSET have keys and values in turn behind their name
+pub record InPairs (count : ℕ) : Type 0 where
+  pub least : 3 ≤ count
+  pub pairs : count ≡ 2 * ((count - 1) / 2) + 1
 
 -- how many of the keys behind the name are live
 unfoldable pub liveReply : Reader → Args → Reply
@@ -48,9 +30,6 @@ readReply Live r a = liveReply r a
 readReply Values r a = array (map (λ k. bulkOr (r k)) (arguments a))
 readReply Echo r a = BulkString (argument 1 a)
 readReply (Says f) r a = fixedReply f
-readReply Arity r a = arityOf (nameWord a)
-readReply Unknown r a = unknownCommand (nameWord a)
-readReply Nothing r a = Nil
 
 -- the arguments that it needs, the name counted
 unfoldable pub leastRead : Read → ℕ
@@ -59,9 +38,6 @@ leastRead Live = 1
 leastRead Values = 1
 leastRead Echo = 2
 leastRead (Says f) = 1
-leastRead Arity = 1
-leastRead Unknown = 1
-leastRead Nothing = 1
 
 -- SET and MSET
 unfoldable pub pairsEffect : Args → Effect
@@ -89,7 +65,7 @@ KindCounted Tombstones count = 2 ≤ count
 KindCounted (Counter by) count = 2 ≤ count
 KindCounted (Reads q) count = leastRead q ≤ count
 
--- what the command of these arguments does
-pub record KindIs (a : Args) (count : ℕ) (k : Kind) : Type 0 where
-  pub effect : (r : Reader) → run r (commandOf a) ≡ kindEffect k r a
+-- what an operation does with these arguments, `count` of them, the name counted
+pub record KindIs (o : Operation) (a : Args) (count : ℕ) (k : Kind) : Type 0 where
+  pub effect : (r : Reader) → run r (commandAs o (arguments a)) ≡ kindEffect k r a
   pub counted : KindCounted k count

@@ -4,8 +4,10 @@ use mathlib.Core.Path.{_≡_}
 use mathlib.Core.Option.{Option, none, some}
 use lib.ListN.{length, drop}
 use Rattle.key.specs.Bytes.{Bytes, bytes}
+use Rattle.server.specs.declared.Operation.{Operation}
+use Rattle.server.specs.declared.Operation.the-variants.{Get, Set, Del, Exists, Mget, Mset, Incr, Incrby, Decr, Ping, Echo}
 use Rattle.server.specs.declared.Name.{Name}
-use Rattle.server.specs.declared.Name.the-variants.{Get, Set, Del, Exists, Mget, Mset, Incr, Incrby, Decr, Ping, Echo, Dbsize, Keys, Scan, Range, Multi, Exec, Discard, Watch, Unwatch, Quit, Unknown}
+use Rattle.server.specs.declared.Name.the-variants.{Queueable, Dbsize, Keys, Scan, Range, Multi, Exec, Discard, Watch, Unwatch, Quit, Unknown}
 use Rattle.server.specs.Names.{Args, nameWord, arguments}
 use Rattle.server.specs.Command.{Executed, argument, fixed, scanOptions, executedAs}
 use Rattle.server.specs.Errors.{fixedReply}
@@ -14,21 +16,23 @@ use Rattle.command.specs.declared.amounts.Amount.{Amount}
 use Rattle.command.specs.declared.amounts.Amount.the-variants.{Is, Missing}
 use Rattle.command.specs.declared.options.ScanOption.{ScanOption}
 use Rattle.command.specs.declared.options.ScanOption.the-variants.{Match, Count, Wrong}
+use Rattle.command.specs.declared.Kind.{Kind}
+use Rattle.command.specs.Kinds.{KindIs}
 use Rattle.command.specs.Meant.{executedMeant, Counted}
 
 -- the place of a name's row in the table of commands
 unfoldable pub rowPlace : Name → ℕ
-rowPlace Get = 0
-rowPlace Set = 1
-rowPlace Del = 2
-rowPlace Exists = 3
-rowPlace Mget = 4
-rowPlace Mset = 5
-rowPlace Incr = 6
-rowPlace Incrby = 7
-rowPlace Decr = 8
-rowPlace Ping = 9
-rowPlace Echo = 10
+rowPlace (Queueable Get) = 0
+rowPlace (Queueable Set) = 1
+rowPlace (Queueable Del) = 2
+rowPlace (Queueable Exists) = 3
+rowPlace (Queueable Mget) = 4
+rowPlace (Queueable Mset) = 5
+rowPlace (Queueable Incr) = 6
+rowPlace (Queueable Incrby) = 7
+rowPlace (Queueable Decr) = 8
+rowPlace (Queueable Ping) = 9
+rowPlace (Queueable Echo) = 10
 rowPlace Dbsize = 11
 rowPlace Keys = 12
 rowPlace Scan = 13
@@ -41,14 +45,14 @@ rowPlace Unwatch = 19
 rowPlace Quit = 20
 rowPlace Unknown = 21
 
--- the answer to a command of this name and of right argument count
+-- the answer to a command of this name, of right argument count and without options
 pub record MeansAs (name : Name) (a : Args) (count : ℕ) (r : CodeExecuted) : Type 0 where
-  pub is : executedAs name (nameWord a) (arguments a) ≡ executedMeant r a
-  pub counted : Counted r count
+  pub is : executedAs name (nameWord a) (arguments a) ≡ executedMeant name r a
+  pub counted : Counted name r a count
 
--- the same for every list of so many arguments
-pub record MeansFor (name : Name) (count : ℕ) (r : CodeExecuted) : Type 0 where
-  pub means : (a : Args) → length a ≡ count → MeansAs name a count r
+-- what an operation does with every list of so many arguments
+pub record KindFor (o : Operation) (count : ℕ) (k : Kind) : Type 0 where
+  pub does : (a : Args) → length a ≡ count → KindIs o a count k
 
 -- a number that the code read
 unfoldable pub amountIn : Amount → Option ℕ
@@ -67,5 +71,5 @@ pub record OptionIs (a : Args) (i : ℕ) (r : ScanOption) : Type 0 where
 
 -- the answer to SCAN from a cursor
 pub record ScanIs (a : Args) (count from : ℕ) (r : CodeExecuted) : Type 0 where
-  pub is : scanOptions from (bytes "*") 10 (drop 2 a) ≡ executedMeant r a
-  pub counted : Counted r count
+  pub is : scanOptions from (bytes "*") 10 (drop 2 a) ≡ executedMeant Scan r a
+  pub counted : Counted Scan r a count

@@ -1,47 +1,76 @@
-// What a command does, by its arguments.
-use crate::Command;
-use crate::Executed;
+// What the commands that may be queued do, by their arguments.
 use crate::Kind;
 use crate::Read;
+use crate::arguments::argument;
+use number::Number;
+use number::integer;
+use server::Fixed;
+use server::Operation;
 ghost use mathlib.Core.Path.{_≡_};
-ghost use Prim.Native.Nat.{_≤_};
+ghost use mathlib.Core.Bool.{true, false};
+ghost use Prim.Native.Nat.{_-_, _≤_};
+ghost use Rattle.server.specs.declared.Operation.the-variants.{Ping, Incrby};
+ghost use Rattle.server.specs.declared.Name.the-variants.{Queueable};
+ghost use Rattle.server.specs.Names.{countRight, withOptions, requestQueueable};
+ghost use Rattle.server.specs.Command.{queuedOperation};
+ghost use Rattle.names.specs.Rows.{rowAt};
 ghost use Rattle.server.specs.Places.{argumentsAt, PartsIn};
-ghost use Rattle.command.specs.Kinds.{kindMeant, kindExecuted, KindIs};
+ghost use Rattle.command.specs.Kinds.{KindIs};
+ghost use Rattle.command.specs.Reading.{rowPlace, KindFor};
 
-// What a command does.
-pub fn kind_of(command: Command) -> Kind
-    ensures { λ r. ⌜ r ≡ kindMeant command ⌝ }
+// PING, alone or with an argument.
+fn ping(count: usize) -> Kind
+    requires { ⌜ 1 ≤ count ⌝ }
+    ensures { λ r. ⌜ KindFor Ping count r ⌝ }
 {
-    match command {
-        Command::Get => Kind::Reads(Read::Value),
-        Command::Set => Kind::Pairs,
-        Command::Del => Kind::Tombstones,
-        Command::Exists => Kind::Reads(Read::Live),
-        Command::Mget => Kind::Reads(Read::Values),
-        Command::Mset => Kind::Pairs,
-        Command::Count(by) => Kind::Counter(by),
-        Command::Echo => Kind::Reads(Read::Echo),
-        Command::Says(f) => Kind::Reads(Read::Says(f)),
-        Command::Arity => Kind::Reads(Read::Arity),
-        Command::Unknown => Kind::Reads(Read::Unknown),
+    if count == 1 {
+        return Kind::Reads(Read::Says(Fixed::Pong));
+    }
+    Kind::Reads(Read::Echo)
+}
+
+// INCRBY: its amount is argument 2.
+fn incrby(input: &[u8], places: &[u64], count: usize) -> Kind
+    requires { ⌜ PartsIn (now places) (now input) count ⌝ }
+    requires { ⌜ 3 ≤ count ⌝ }
+    ensures { λ r. ⌜ KindIs Incrby (argumentsAt 0 count (now (places .entry)) (now (input .entry))) count r ⌝ }
+{
+    let Number::Int(by) = integer::int_arg(argument(input, places, count, 2)) else {
+        return Kind::Reads(Read::Says(Fixed::NotInteger));
+    };
+    Kind::Counter(by)
+}
+
+// What an operation does, for a right argument count and no options.
+pub fn kind_of(operation: Operation, input: &[u8], places: &[u64], count: usize) -> Kind
+    requires { ⌜ PartsIn (now places) (now input) count ⌝ }
+    requires { ⌜ 1 ≤ count ⌝ }
+    requires { ⌜ countRight (rowAt (rowPlace (Queueable operation))) (count - 1) ≡ true ⌝ }
+    requires { ⌜ withOptions operation (count - 1) ≡ false ⌝ }
+    ensures { λ r. ⌜ KindIs operation (argumentsAt 0 count (now (places .entry)) (now (input .entry))) count r ⌝ }
+{
+    match operation {
+        Operation::Get => Kind::Reads(Read::Value),
+        Operation::Set => Kind::Pairs,
+        Operation::Del => Kind::Tombstones,
+        Operation::Exists => Kind::Reads(Read::Live),
+        Operation::Mget => Kind::Reads(Read::Values),
+        Operation::Mset => Kind::Pairs,
+        Operation::Incr => Kind::Counter(1),
+        Operation::Incrby => incrby(input, places, count),
+        Operation::Decr => Kind::Counter(-1),
+        Operation::Ping => ping(count),
+        Operation::Echo => Kind::Reads(Read::Echo),
     }
 }
 
-// The same; one that lists the table is not queued, and is answered by nil.
-fn kind_executed(executed: Executed) -> Kind
-    ensures { λ r. ⌜ r ≡ kindExecuted executed ⌝ }
-{
-    match executed {
-        Executed::Runs(command) => kind_of(command),
-        Executed::Lists(_) => Kind::Reads(Read::Nothing),
-    }
-}
-
-// What the command of these arguments does.
+// What a queued command does.
 pub fn kind_at(data: &[u8], places: &[u64], count: usize) -> Kind
     requires { ⌜ PartsIn (now places) (now «data») count ⌝ }
     requires { ⌜ 1 ≤ count ⌝ }
-    ensures { λ r. ⌜ KindIs (argumentsAt 0 count (now (places .entry)) (now («data» .entry))) count r ⌝ }
+    requires { ⌜ requestQueueable (argumentsAt 0 count (now places) (now «data»)) ≡ true ⌝ }
+    ensures { λ r. ⌜ KindIs (queuedOperation (argumentsAt 0 count (now (places .entry)) (now («data» .entry)))) (argumentsAt 0 count (now (places .entry)) (now («data» .entry))) count r ⌝ }
 {
-    kind_executed(crate::executed_of(data, places, count))
+    let row = names::look_up(argument(data, places, count, 0));
+    kind_of(names::operation_at(row), data, places, count)
 }

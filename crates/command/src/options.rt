@@ -1,7 +1,7 @@
 // SCAN and RANGE with their options.
-use crate::Command;
 use crate::Executed;
 use crate::Listing;
+use crate::Refusal;
 use crate::amounts;
 use crate::amounts::Amount;
 use crate::arguments;
@@ -59,11 +59,11 @@ fn scan_options(input: &[u8], places: &[u64], count: usize, from: u64) -> Execut
                 most = n;
                 i += 2;
             }
-            ScanOption::Wrong(error) => return Executed::Runs(Command::Says(error)),
+            ScanOption::Wrong(error) => return Executed::Refused(Refusal::Says(error)),
         }
     }
     if i < count {
-        return Executed::Runs(Command::Says(Fixed::Syntax));
+        return Executed::Refused(Refusal::Says(Fixed::Syntax));
     }
     Executed::Lists(Listing::Scan(from, pattern, most))
 }
@@ -76,7 +76,7 @@ pub fn scan(input: &[u8], places: &[u64], count: usize) -> Executed
 {
     let cursor = integer::int_arg(arguments::argument(input, places, count, 1));
     let Amount::Is(from) = amounts::natural(cursor) else {
-        return Executed::Runs(Command::Says(Fixed::InvalidCursor));
+        return Executed::Refused(Refusal::Says(Fixed::InvalidCursor));
     };
     scan_options(input, places, count, from)
 }
@@ -94,11 +94,11 @@ pub fn range(input: &[u8], places: &[u64], count: usize) -> Executed
         if names::same(arguments::argument(input, places, count, 3), b"LIMIT") {
             let value = integer::int_arg(arguments::argument(input, places, count, 4));
             let Amount::Is(most) = amounts::natural(value) else {
-                return Executed::Runs(Command::Says(Fixed::BadLimit));
+                return Executed::Refused(Refusal::Says(Fixed::BadLimit));
             };
             return Executed::Lists(Listing::RangeUpTo(most));
         }
-        return Executed::Runs(Command::Says(Fixed::Syntax));
+        return Executed::Refused(Refusal::Says(Fixed::Syntax));
     }
-    Executed::Runs(Command::Says(Fixed::Syntax))
+    Executed::Refused(Refusal::Says(Fixed::Syntax))
 }

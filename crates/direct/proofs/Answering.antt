@@ -1,4 +1,4 @@
--- The commands that write nothing: the reply of each. Assumes nothing.
+-- The commands that write nothing, and the errors of requests that are not carried out: the reply of each. Assumes nothing.
 use Prim.Native.Nat.{ℕ, _-_, _≤_}
 use mathlib.Core.Path.{_≡_, refl, sym, ap, _∙_}
 use mathlib.Core.List.{List}
@@ -9,14 +9,17 @@ use Rattle.key.specs.Bytes.{Bytes}
 use Rattle.writing.specs.declared.Put.{Put}
 use Rattle.writing.specs.Puts.{Puts}
 use Rattle.writing.proofs.Puts.{same-text}
-use Rattle.resp.specs.Reply.{Reply, Integer, BulkString, Nil, bulkOr, encode}
+use Rattle.resp.specs.Reply.{Reply, Integer, BulkString, bulkOr, encode}
 use Rattle.server.specs.declared.Fixed.{Fixed}
 use Rattle.server.specs.Names.{Args}
 use Rattle.server.specs.Command.{argument, live, unknownCommand}
 use Rattle.server.specs.Errors.{fixedReply, arityOf}
 use Rattle.server.specs.Places.{argumentsAt}
 use Rattle.command.specs.declared.Read.{Read}
-use Rattle.command.specs.declared.Read.the-variants.{Value, Live, Values, Echo, Says, Arity, Unknown, Nothing}
+use Rattle.command.specs.declared.Read.the-variants.{Value, Live, Values, Echo, Says}
+use Rattle.command.specs.declared.Refusal.{Refusal}
+use Rattle.command.specs.declared.Refusal.the-variants as refusal
+use Rattle.command.specs.Meant.{refusalReply}
 use Rattle.command.specs.Kinds.{liveReply, readReply, leastRead}
 use Rattle.verdict.specs.Reading.{lastReader, valuesReply}
 
@@ -52,17 +55,21 @@ module _ (w : List ℕ) (b : Bytes) (p : List ℕ) (d : Bytes) (count : ℕ) (q 
   unfolding readReply
   read-says e a = as-reply e refl a
 
-  pub read-arity : {k : Bytes} → q ≡ Arity → leastRead q ≤ count → k ≡ argument 0 (argumentsAt 0 count p d) → Puts (encode (arityOf k)) out put out′
-      → Puts (encode (readReply q (lastReader w b) (argumentsAt 0 count p d))) out put out′
-  unfolding readReply
-  read-arity e h k-is a = as-reply e (ap arityOf (k-is ∙ sym (name-of p d count (least-one q h)))) a
+-- EACH ERROR
+module _ (p : List ℕ) (d : Bytes) (count : ℕ) (q : Refusal) {out out′ : Bytes} {put : Put} where
+  as-error : {x : Reply} {t : Refusal} → q ≡ t → x ≡ refusalReply t (argumentsAt 0 count p d) → Puts (encode x) out put out′
+      → Puts (encode (refusalReply q (argumentsAt 0 count p d))) out put out′
+  as-error e x-is a = same-text (ap encode (ap (λ (t : Refusal). refusalReply t (argumentsAt 0 count p d)) e ∙ sym x-is)) a
 
-  pub read-unknown : {k : Bytes} → q ≡ Unknown → leastRead q ≤ count → k ≡ argument 0 (argumentsAt 0 count p d) → Puts (encode (unknownCommand k)) out put out′
-      → Puts (encode (readReply q (lastReader w b) (argumentsAt 0 count p d))) out put out′
-  unfolding readReply
-  read-unknown e h k-is a = as-reply e (ap unknownCommand (k-is ∙ sym (name-of p d count (least-one q h)))) a
+  pub refusal-says : {f : Fixed} → q ≡ refusal.Says f → Puts (encode (fixedReply f)) out put out′ → Puts (encode (refusalReply q (argumentsAt 0 count p d))) out put out′
+  unfolding refusalReply
+  refusal-says e a = as-error e refl a
 
-  pub read-nothing : q ≡ Nothing → Puts (encode Nil) out put out′
-      → Puts (encode (readReply q (lastReader w b) (argumentsAt 0 count p d))) out put out′
-  unfolding readReply
-  read-nothing e a = as-reply e refl a
+  module _ (some-count : 1 ≤ count) {k : Bytes} (k-is : k ≡ argument 0 (argumentsAt 0 count p d)) where
+    pub refusal-arity : q ≡ refusal.Arity → Puts (encode (arityOf k)) out put out′ → Puts (encode (refusalReply q (argumentsAt 0 count p d))) out put out′
+    unfolding refusalReply
+    refusal-arity e a = as-error e (ap arityOf (k-is ∙ sym (name-of p d count some-count))) a
+
+    pub refusal-unknown : q ≡ refusal.Unknown → Puts (encode (unknownCommand k)) out put out′ → Puts (encode (refusalReply q (argumentsAt 0 count p d))) out put out′
+    unfolding refusalReply
+    refusal-unknown e a = as-error e (ap unknownCommand (k-is ∙ sym (name-of p d count some-count))) a

@@ -33,8 +33,8 @@ pub fn run_command(
     ensures { λ r. ⌜ Answers (executedOf (argumentsAt 0 count (now (places .entry)) (now (input .entry)))) used (now (out .entry)) (now (words .entry)) (now (bytes .entry)) r (now (out .exit)) (now (words .exit)) (now (bytes .exit)) ⌝ }
 {
     match command::executed_of(input, places, count) {
-        Executed::Runs(command) => kinds::run_kind(
-            command::kinds::kind_of(command),
+        Executed::Runs(kind) => kinds::run_kind(
+            kind,
             input,
             places,
             count,
@@ -45,6 +45,16 @@ pub fn run_command(
         ),
         Executed::Lists(listing) => listings::answer_listing(
             listing,
+            input,
+            places,
+            count,
+            used,
+            words,
+            bytes,
+            out,
+        ),
+        Executed::Refused(refusal) => replies::answer_refusal(
+            refusal,
             input,
             places,
             count,

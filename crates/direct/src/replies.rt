@@ -1,5 +1,6 @@
 // The commands outside MULTI that write nothing: the reply is put, and the answer is made of it.
 use command::Read;
+use command::Refusal;
 use command::arguments;
 use encode::reply;
 use server::Answer;
@@ -19,6 +20,7 @@ ghost use Rattle.server.specs.Command.{live};
 ghost use Rattle.server.specs.Errors.{fixedReply};
 ghost use Rattle.server.specs.Places.{argumentsAt, PartsIn};
 ghost use Rattle.command.specs.Kinds.{readReply, leastRead};
+ghost use Rattle.command.specs.Meant.{refusalReply};
 ghost use Rattle.verdict.specs.Reading.{lastReader};
 ghost use Rattle.verdict.specs.Served.{Runs};
 
@@ -86,9 +88,6 @@ fn put_read(
             reply::put_bulk(out, text)
         }
         Read::Says(which) => errors::put_fixed(out, which),
-        Read::Arity => errors::put_arity(out, arguments::argument(input, places, count, 0)),
-        Read::Unknown => errors::put_unknown(out, arguments::argument(input, places, count, 0)),
-        Read::Nothing => reply::put_nil(out),
     }
 }
 
@@ -111,5 +110,40 @@ pub fn answer_read(
     ensures { λ r. ⌜ Runs (readReply read (lastReader (now (words .entry)) (now (bytes .entry))) (argumentsAt 0 count (now (places .entry)) (now (input .entry))), []) used (now (out .entry)) (now (words .entry)) (now (bytes .entry)) r (now (out .exit)) (now (words .entry)) (now (bytes .entry)) ⌝ }
 {
     let put = put_read(read, input, places, count, words, bytes, out);
+    answer::put_answer(put, used)
+}
+
+// Writes the error of a request that is not carried out.
+fn put_refusal(refusal: Refusal, input: &[u8], places: &[u64], count: usize, out: &mut [u8]) -> Put
+    requires { ⌜ PartsIn (now places) (now input) count ⌝ }
+    requires { ⌜ 1 ≤ count ⌝ }
+    ensures { λ r. ⌜ Puts (encode (refusalReply refusal (argumentsAt 0 count (now (places .entry)) (now (input .entry))))) (now (out .entry)) r (now (out .exit)) ⌝ }
+{
+    match refusal {
+        Refusal::Says(which) => errors::put_fixed(out, which),
+        Refusal::Arity => errors::put_arity(out, arguments::argument(input, places, count, 0)),
+        Refusal::Unknown => errors::put_unknown(out, arguments::argument(input, places, count, 0)),
+    }
+}
+
+// Answers a request that is not carried out.
+pub fn answer_refusal(
+    refusal: Refusal,
+    input: &[u8],
+    places: &[u64],
+    count: usize,
+    used: usize,
+    words: &[u64],
+    bytes: &[u8],
+    out: &mut [u8],
+) -> Answer
+    requires { ⌜ PartsIn (now places) (now input) count ⌝ }
+    requires { ⌜ 1 ≤ count ⌝ }
+    requires { ⌜ Valid (now words) (now bytes) ⌝ }
+    requires { ⌜ lastWord (now words) < 2 ^ 64 ⌝ }
+    requires { ⌜ now out ≡ replicate (length (now out)) 0 ⌝ }
+    ensures { λ r. ⌜ Runs (refusalReply refusal (argumentsAt 0 count (now (places .entry)) (now (input .entry))), []) used (now (out .entry)) (now (words .entry)) (now (bytes .entry)) r (now (out .exit)) (now (words .entry)) (now (bytes .entry)) ⌝ }
+{
+    let put = put_refusal(refusal, input, places, count, out);
     answer::put_answer(put, used)
 }

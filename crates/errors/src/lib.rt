@@ -66,14 +66,6 @@ pub fn put_unknown(out: &mut [u8], word: &[u8]) -> Put
     writing::then_bytes(out, quoted, b"'\r\n")
 }
 
-pub fn then_unknown(out: &mut [u8], put: Put, word: &[u8]) -> Put
-    ensures { λ r. ⌜ Adds (encode (unknownCommand (now (word .entry)))) put (now (out .entry)) r (now (out .exit)) ⌝ }
-{
-    let at = writing::place(put, out.len());
-    let next = put_unknown(&mut out[at..], word);
-    writing::joined(out, put, next)
-}
-
 // The error for a name that may not be queued, in capitals.
 pub fn put_not_queueable(out: &mut [u8], word: &[u8]) -> Put
     ensures { λ r. ⌜ Puts (encode (notQueueable (now (word .entry)))) (now (out .entry)) r (now (out .exit)) ⌝ }
@@ -90,12 +82,4 @@ pub fn put_arity(out: &mut [u8], word: &[u8]) -> Put
     let opened = writing::put_bytes(out, b"-ERR wrong number of arguments for '");
     let named = clean::then_clean(out, opened, word, Letters::Small);
     writing::then_bytes(out, named, b"' command\r\n")
-}
-
-pub fn then_arity(out: &mut [u8], put: Put, word: &[u8]) -> Put
-    ensures { λ r. ⌜ Adds (encode (arityOf (now (word .entry)))) put (now (out .entry)) r (now (out .exit)) ⌝ }
-{
-    let at = writing::place(put, out.len());
-    let next = put_arity(&mut out[at..], word);
-    writing::joined(out, put, next)
 }

@@ -3,21 +3,21 @@ use Prim.Native.Nat.{ℕ, _-_, _≤_}
 use mathlib.Core.Path.{_≡_, refl, sym, ap, _∙_}
 use mathlib.Core.List.{List}
 use Rattle.command.proofs.KindLaws.{least-one}
-use Rattle.server.proofs.PlaceLaws.{arguments-of, name-of}
+use Rattle.server.proofs.PlaceLaws.{arguments-of}
 use Rattle.key.specs.Bytes.{Bytes}
 use Rattle.writing.specs.declared.Put.{Put}
 use Rattle.writing.specs.Puts.{Adds}
 use Rattle.writing.proofs.Puts.{same-added}
-use Rattle.resp.specs.Reply.{Reply, BulkString, Nil, array, bulkOr, encode}
+use Rattle.resp.specs.Reply.{Reply, BulkString, array, bulkOr, encode}
 use Rattle.server.specs.declared.Fixed.{Fixed}
 use Rattle.server.specs.Names.{Args}
-use Rattle.server.specs.Command.{argument, unknownCommand}
-use Rattle.server.specs.Errors.{fixedReply, arityOf}
+use Rattle.server.specs.Command.{argument}
+use Rattle.server.specs.Errors.{fixedReply}
 use Rattle.server.specs.Places.{argumentsAt}
 use Rattle.own.specs.Own.{readerOf}
 use Rattle.reading.specs.See.{valueReplies}
 use Rattle.command.specs.declared.Read.{Read}
-use Rattle.command.specs.declared.Read.the-variants.{Value, Live, Values, Echo, Says, Arity, Unknown, Nothing}
+use Rattle.command.specs.declared.Read.the-variants.{Value, Live, Values, Echo, Says}
 use Rattle.command.specs.Kinds.{liveReply, readReply, leastRead}
 
 module _ (own : List ℕ) (d : Bytes) (rows : ℕ) (w : List ℕ) (b : Bytes) (s : ℕ) (p : List ℕ) (count : ℕ) (q : Read) {put after : Put} {entry exit : Bytes} where
@@ -50,18 +50,3 @@ module _ (own : List ℕ) (d : Bytes) (rows : ℕ) (w : List ℕ) (b : Bytes) (s
       → Adds (encode (readReply q (readerOf own d rows w b s) (argumentsAt 0 count p d))) put entry after exit
   unfolding readReply
   read-says e a = as-reply e refl a
-
-  pub read-arity : {k : Bytes} → q ≡ Arity → leastRead q ≤ count → k ≡ argument 0 (argumentsAt 0 count p d) → Adds (encode (arityOf k)) put entry after exit
-      → Adds (encode (readReply q (readerOf own d rows w b s) (argumentsAt 0 count p d))) put entry after exit
-  unfolding readReply
-  read-arity e h k-is a = as-reply e (ap arityOf (k-is ∙ sym (name-of p d count (least-one q h)))) a
-
-  pub read-unknown : {k : Bytes} → q ≡ Unknown → leastRead q ≤ count → k ≡ argument 0 (argumentsAt 0 count p d) → Adds (encode (unknownCommand k)) put entry after exit
-      → Adds (encode (readReply q (readerOf own d rows w b s) (argumentsAt 0 count p d))) put entry after exit
-  unfolding readReply
-  read-unknown e h k-is a = as-reply e (ap unknownCommand (k-is ∙ sym (name-of p d count (least-one q h)))) a
-
-  pub read-nothing : q ≡ Nothing → Adds (encode Nil) put entry after exit
-      → Adds (encode (readReply q (readerOf own d rows w b s) (argumentsAt 0 count p d))) put entry after exit
-  unfolding readReply
-  read-nothing e a = as-reply e refl a

@@ -32,9 +32,9 @@ use Rattle.exec.specs.Execution.{LaidOut, execServed, ExecReady}
 use Rattle.exec.proofs.Progress.{ended, execute-conflict, execute-concluded, replies-are}
 
 -- THE TESTS of a session
-pub positive-counts : (last : ℕ) (s : List ℕ) (sb : Bytes) → sessionOk last s sb ≡ true → allPositive (part 68 (getD s 3 0) s) ≡ true
+queue-tests : (last : ℕ) (s : List ℕ) (sb : Bytes) → sessionOk last s sb ≡ true → (allPositive (part 68 (getD s 3 0) s) ≡ true) × (allQueueable (queueIn s sb) ≡ true)
 unfolding sessionOk queueOk
-positive-counts last s sb e =
+queue-tests last s sb e =
     let a : Bool = leb (getD s 3 0) 64 in
     let b : Bool = leb (total (part 68 (getD s 3 0) s)) 512 in
     let c : Bool = leb (total (part 132 (total (part 68 (getD s 3 0) s)) s)) 8192 in
@@ -45,7 +45,7 @@ positive-counts last s sb e =
     let r1 = and-right a (b and (c and (d and (f and g)))) q in
     let r2 = and-right b (c and (d and (f and g))) r1 in
     let r3 = and-right c (d and (f and g)) r2 in
-    and-left d (f and g) r3
+    (and-left d (f and g) r3, and-left f g (and-right d (f and g) r3))
 
 -- WHAT IS SERVED, from what EXEC does
 served-by : (s : List ℕ) (sb : Bytes) (w b : List ℕ) (used : ℕ) (out : Bytes) {e : Done} {r : Answer} {out′ : Bytes} {w′ b′ s′ : List ℕ}
@@ -84,7 +84,8 @@ pub exec-ready : (last : ℕ) (s : List ℕ) (sb : Bytes) (w b : List ℕ) (out 
     → t ≡ anyMoved (versionsIn w b) (sessionFrom s sb .watch) → t ≡ false → ExecReady s sb w b out
 exec-ready last s sb w b out o ok v z f-is f-no t-is t-no = record {
   held = held-by-tests last s sb o ok;
-  positive = positive-counts last s sb ok;
+  positive = queue-tests last s sb ok .0;
+  queueable = queue-tests last s sb ok .1;
   unmarked = flag-zero (getD s 1 0) (sym f-is ∙ f-no);
   unmoved = sym t-is ∙ t-no;
   valid = v;

@@ -12,7 +12,7 @@ use Rattle.server.proofs.PlaceLaws.{places-length}
 use Rattle.key.specs.Bytes.{Bytes, part, concat, total}
 use Rattle.server.specs.Names.{Args}
 use Rattle.server.specs.Command.{commandOf}
-use Rattle.server.specs.Sessions.{splitBy, allPositive, queueIn}
+use Rattle.server.specs.Sessions.{splitBy, allPositive, allQueueable, queueIn}
 use Rattle.server.specs.Lent.{capped}
 use Rattle.server.specs.Held.{Held}
 use Rattle.server.specs.Places.{argumentsAt, PartsIn, placesOf, Expandable}
@@ -20,7 +20,7 @@ use Rattle.server.proofs.SplitLaws.{split-whole}
 use Rattle.sessions.proofs.Sums.{capped-low}
 use Rattle.sessions.proofs.Kept.{queue-counts}
 use Rattle.sessions.proofs.Expanding.{expanded}
-use Rattle.exec.specs.Progress.{Queued, commandsIn}
+use Rattle.exec.specs.Progress.{Queued, requestsIn, commandsIn}
 use Rattle.exec.specs.Execution.{LaidOut}
 use Rattle.exec.proofs.WalkLaws.{grown-arguments}
 
@@ -59,10 +59,10 @@ module _ {s : List ℕ} {sb : Bytes} (h : Held s sb) {q n : ℕ} (q-is : q ≡ g
     pub bytes-in : 2048 + u ≤ length sb
     bytes-in = omega (arith, sum-small, h .bytes)
 
-    pub laid-out : (p : List ℕ) {p′ : List ℕ} (d : Bytes) {d′ : Bytes} → allPositive (part 68 (getD s 3 0) s) ≡ true → 1024 ≤ length p → 11520 ≤ length d
+    pub laid-out : (p : List ℕ) {p′ : List ℕ} (d : Bytes) {d′ : Bytes} → allPositive (part 68 (getD s 3 0) s) ≡ true → allQueueable (queueIn s sb) ≡ true → 1024 ≤ length p → 11520 ≤ length d
         → p′ ≡ putAt 0 (placesOf 2048 (part 132 n s)) p → d′ ≡ putAt 0 (take (2048 + u) sb) d → LaidOut s sb d p′ d′ (2048 + u)
-    unfolding putAt commandsIn
-    laid-out p {p′} d {d′} positive lp ld p-is d-is =
+    unfolding putAt commandsIn requestsIn
+    laid-out p {p′} d {d′} positive queueable lp ld p-is d-is =
         let t : ℕ = total (part 68 (getD s 3 0) s) in
         let ls : List ℕ = part 132 n s in
         let long : length ls ≡ n = length-part 132 n s lengths-in in
@@ -86,12 +86,19 @@ module _ {s : List ℕ} {sb : Bytes} (h : Held s sb) {q n : ℕ} (q-is : q ≡ g
         ∙ expanded h p in
         let size : length d′ ≡ length d =
         ap length d-is ∙ length-append (take (2048 + u) sb) (drop (0 + length (take (2048 + u) sb)) d) ∙ omega (arith, length-drop (0 + length (take (2048 + u) sb)) d, front, sum-small) in
+        let requests : splitBy (part 68 (getD s 3 0) s) (argumentsAt 0 t p′ (take (2048 + u) sb)) ≡ queueIn s sb =
+        ap (λ (x : Args). splitBy (part 68 (getD s 3 0) s) x) all ∙ ap (λ (x : List ℕ). splitBy x (concat (queueIn s sb))) (sym (queue-counts h)) ∙ split-whole (queueIn s sb) in
         record {
-          queued = subst (Queued s p′) (sym in-use) (record { words = h .words; few = h .few-commands; few-arguments = h .few-arguments; positive = positive; parts = parts });
-          commands = ap (λ (x : Bytes). map commandOf (splitBy (part 68 (getD s 3 0) s) (argumentsAt 0 t p′ x))) in-use
-              ∙ ap (λ (x : Args). map commandOf (splitBy (part 68 (getD s 3 0) s) x)) all
-              ∙ ap (λ (x : List ℕ). map commandOf (splitBy x (concat (queueIn s sb)))) (sym (queue-counts h))
-              ∙ ap (map commandOf) (split-whole (queueIn s sb));
+          queued = subst (Queued s p′) (sym in-use)
+              (record {
+                words = h .words;
+                few = h .few-commands;
+                few-arguments = h .few-arguments;
+                positive = positive;
+                parts = parts;
+                queueable = ap allQueueable requests ∙ queueable;
+              });
+          commands = ap (λ (x : Bytes). map commandOf (splitBy (part 68 (getD s 3 0) s) (argumentsAt 0 t p′ x))) in-use ∙ ap (map commandOf) requests;
           room = omega (arith, size, sum-small);
           same-data = size;
         }

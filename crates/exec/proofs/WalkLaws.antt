@@ -14,16 +14,16 @@ use Rattle.writing.specs.Puts.{Puts}
 use Rattle.writing.proofs.Puts.{length-kept, Follows, follows-none, follows-more, then-follows}
 use Rattle.resp.specs.Reply.{head, encode}
 use Rattle.memtable.specs.Rows.{versionsIn}
-use Rattle.server.specs.Names.{Args}
+use Rattle.server.specs.Names.{Args, requestQueueable}
 use Rattle.server.specs.Command.{Command, commandOf, run}
-use Rattle.server.specs.Sessions.{splitBy, yes?, allPositive}
+use Rattle.server.specs.Sessions.{splitBy, yes?, allPositive, allQueueable}
 use Rattle.server.specs.Places.{argumentsAt, PartsIn}
 use Rattle.server.proofs.Parts.{part-next, part-none, part-start}
 use Rattle.own.specs.Own.{ownWrites, Own, readerOf}
 use Rattle.own.proofs.Growing.{none-writes, own-none, part-append}
 use Rattle.inside.specs.declared.Walked.{Walked}
 use Rattle.inside.specs.Walks.{Advanced}
-use Rattle.exec.specs.Progress.{Progress, begun, advance, advanceAll, Queued, commandsIn, QueueRan}
+use Rattle.exec.specs.Progress.{Progress, begun, advance, advanceAll, Queued, requestsIn, commandsIn, QueueRan}
 
 -- ARGUMENTS of a part of the table
 pub take-arguments : (k n m : ℕ) (p : List ℕ) (s : Bytes) → take n (argumentsAt k (n + m) p s) ≡ argumentsAt k n p s
@@ -68,6 +68,7 @@ pub record Walking (s p : List ℕ) (d₀ : Bytes) (w : List ℕ) (b : Bytes) (s
   pub within : i ≤ getD s 3 0
   pub first-is : first + total (part (68 + i) (getD s 3 0 - i) s) ≡ total (part 68 (getD s 3 0) s)
   pub positive : allPositive (part (68 + i) (getD s 3 0 - i) s) ≡ true
+  pub queueable : allQueueable (splitBy (part (68 + i) (getD s 3 0 - i) s) (argumentsAt first (total (part (68 + i) (getD s 3 0 - i) s)) p d₀)) ≡ true
   pub kept : Own own (take (a .used) d) (a .rows)
   pub front : take (length d₀) d ≡ d₀
   pub used-more : length d₀ ≤ a .used
@@ -83,7 +84,7 @@ pub record Walking (s p : List ℕ) (d₀ : Bytes) (w : List ℕ) (b : Bytes) (s
 
 pub walking-none : (s p : List ℕ) (w : List ℕ) (b : Bytes) (seq used : ℕ) (put₀ : Put) (own d out : Bytes) {n : ℕ} → n ≡ getD s 3 0 → Queued s p (take used d) → used + 1280 ≤ length d
     → Walking s p (take used d) w b seq put₀ own d out own d out (record { rows = 0; used = used; put = put₀ }) 0 0
-unfolding commandsIn
+unfolding commandsIn requestsIn
 walking-none s p w b seq used put₀ own d out n-is q h =
     let e : part 68 (getD s 3 0) s ≡ part (68 + 0) (getD s 3 0 - 0) s = part-start s 68 (getD s 3 0) in
     let l : length (take used d) ≡ used = length-take-le used d (omega arith) in
@@ -91,6 +92,7 @@ walking-none s p w b seq used put₀ own d out n-is q h =
       within = omega arith;
       first-is = omega (arith, ap total e);
       positive = sym (ap allPositive e) ∙ q .positive;
+      queueable = sym (ap (λ (l : List ℕ). allQueueable (splitBy l (argumentsAt 0 (total l) p (take used d)))) e) ∙ q .queueable;
       kept = own-none own (take used d);
       front = ap (λ (m : ℕ). take m d) l;
       used-more = omega arith;
@@ -150,6 +152,20 @@ module _ {s p : List ℕ} {d₀ : Bytes} {w : List ℕ} {b : Bytes} {seq : ℕ} 
         ∙ ap (argumentsAt first count p) used-is
         ∙ grown-arguments p d₀ (drop (length d₀) (take (a .used) d)) (total (part 68 (getD s 3 0) s)) first count (q .parts) last-argument
 
+    -- it may be queued, and so may those behind it
+    queueable-next : (requestQueueable (argumentsAt first count p d₀)
+        and allQueueable (splitBy (part (68 + (i + 1)) (getD s 3 0 - (i + 1)) s) (argumentsAt (first + count) (total (part (68 + (i + 1)) (getD s 3 0 - (i + 1)) s)) p d₀)))
+        ≡ true
+    unfolding allQueueable splitBy
+    queueable-next =
+        let m : ℕ = total (part (68 + (i + 1)) (getD s 3 0 - (i + 1)) s) in
+        (λ z. requestQueueable (sym (take-arguments first count m p d₀) z)
+        and allQueueable (splitBy (part (68 + (i + 1)) (getD s 3 0 - (i + 1)) s) (sym (drop-arguments first count m p d₀) z)))
+        ∙ sym (λ z. allQueueable (splitBy (counts-next z) (argumentsAt first (total-next z) p d₀))) ∙ g .queueable
+
+    pub may-queue : requestQueueable (argumentsAt 0 count (part (2 * first) (2 * first + 2 * count - 2 * first) p) (take (a .used) d)) ≡ true
+    may-queue = ap requestQueueable lent-arguments ∙ and-left (requestQueueable (argumentsAt first count p d₀)) _ queueable-next
+
     pub lent-parts : PartsIn (part (2 * first) (2 * first + 2 * count - 2 * first) p) (take (a .used) d) count
     lent-parts = record {
       table = rw (length-take-le (2 * first + 2 * count - 2 * first) (drop (2 * first) p) (rw length-drop (omega (arith, places-in)))) (omega arith);
@@ -185,6 +201,7 @@ module _ {s p : List ℕ} {d₀ : Bytes} {w : List ℕ} {b : Bytes} {seq : ℕ} 
           within = omega arith;
           first-is = omega (arith, g .first-is, total-next);
           positive = and-right (yes? count) (allPositive (part (68 + (i + 1)) (getD s 3 0 - (i + 1)) s)) positive-next;
+          queueable = and-right (requestQueueable (argumentsAt first count p d₀)) _ queueable-next;
           kept = x .kept;
           front = sym (take-take (length d₀) (a .used) d′ (g .used-more)) ∙ ap (take (length d₀)) (x .data-kept) ∙ take-take (length d₀) (a .used) d (g .used-more) ∙ g .front;
           used-more = omega (arith, g .used-more, x .used-more);

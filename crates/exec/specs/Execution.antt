@@ -9,7 +9,7 @@ use Rattle.memtable.specs.Layout.{storeIn}
 use Rattle.memtable.specs.Rows.{Valid, versionsIn}
 use Rattle.server.specs.Command.{commandOf}
 use Rattle.server.specs.Session.{anyMoved, execute}
-use Rattle.server.specs.Sessions.{queueIn, sessionFrom, allPositive}
+use Rattle.server.specs.Sessions.{queueIn, sessionFrom, allPositive, allQueueable}
 use Rattle.server.specs.Held.{Held}
 use Rattle.server.specs.Finish.{Served, finish}
 use Rattle.exec.specs.Progress.{Queued, commandsIn}
@@ -29,6 +29,7 @@ pub record LaidOut (s : List ℕ) (sb d : Bytes) (p′ : List ℕ) (d′ : Bytes
 pub record ExecReady (s : List ℕ) (sb : Bytes) (w b : List ℕ) (out : Bytes) : Type 0 where
   pub held : Held s sb
   pub positive : allPositive (part 68 (getD s 3 0) s) ≡ true
+  pub queueable : allQueueable (queueIn s sb) ≡ true
   pub unmarked : getD s 1 0 ≡ 0
   pub unmoved : anyMoved (versionsIn w b) (sessionFrom s sb .watch) ≡ false
   pub valid : Valid w b

@@ -10,7 +10,8 @@ use Rattle.resp.specs.Reply.{head, encode}
 use Rattle.memtable.specs.Table.{Write, over, lastWrites}
 use Rattle.memtable.specs.Versions.{Version, readAt}
 use Rattle.server.specs.Command.{Command, commandOf, run}
-use Rattle.server.specs.Sessions.{splitBy, allPositive}
+use Rattle.server.specs.Names.{Args}
+use Rattle.server.specs.Sessions.{splitBy, allPositive, allQueueable}
 use Rattle.server.specs.Places.{argumentsAt, PartsIn}
 use Rattle.own.specs.Own.{ownWrites, Own}
 use Rattle.inside.specs.declared.Walked.{Walked}
@@ -38,17 +39,22 @@ unfoldable pub advanceAll : ℕ → List Version → List Command → Progress �
 advanceAll s vs [] p = p
 advanceAll s vs (c ∷ cs) p = advanceAll s vs cs (advance s vs c p)
 
--- THE QUEUE of a session as the code walks it: its sizes, and the places of its arguments in the data in use
+-- THE QUEUE of a session as the code walks it: its requests, by the places of their arguments in the data in use
+unfoldable pub requestsIn : List ℕ → List ℕ → Bytes → List Args
+requestsIn s p d = splitBy (part 68 (getD s 3 0) s) (argumentsAt 0 (total (part 68 (getD s 3 0) s)) p d)
+
+-- its sizes, and that each request may be queued
 pub record Queued (s p : List ℕ) (d : Bytes) : Type 0 where
   pub words : length s ≡ 644
   pub few : getD s 3 0 ≤ 64
   pub few-arguments : total (part 68 (getD s 3 0) s) ≤ 512
   pub positive : allPositive (part 68 (getD s 3 0) s) ≡ true
   pub parts : PartsIn p d (total (part 68 (getD s 3 0) s))
+  pub queueable : allQueueable (requestsIn s p d) ≡ true
 
 -- its commands
 unfoldable pub commandsIn : List ℕ → List ℕ → Bytes → List Command
-commandsIn s p d = map commandOf (splitBy (part 68 (getD s 3 0) s) (argumentsAt 0 (total (part 68 (getD s 3 0) s)) p d))
+commandsIn s p d = map commandOf (requestsIn s p d)
 
 -- what running all of them leaves, by how far they have come
 pub record QueueRan (e : Progress) (count : ℕ) (own : List ℕ) (d out : Bytes) (own′ : List ℕ) (d′ out′ : Bytes) (r : Walked) : Type 0 where

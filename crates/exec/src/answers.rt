@@ -61,8 +61,5 @@ pub fn then_read(
         ),
         Read::Echo => items::then_bulk(out, put, argument(data, places, count, 1)),
         Read::Says(f) => errors::then_fixed(out, put, f),
-        Read::Arity => errors::then_arity(out, put, argument(data, places, count, 0)),
-        Read::Unknown => errors::then_unknown(out, put, argument(data, places, count, 0)),
-        Read::Nothing => items::then_nil(out, put),
     }
 }

@@ -5,7 +5,7 @@ ghost use mathlib.Core.Bool.{true};
 ghost use Prim.Native.Nat.{_≤_};
 ghost use lib.ListN.{length, getD};
 ghost use Rattle.key.specs.Bytes.{part};
-ghost use Rattle.server.specs.Sessions.{allPositive};
+ghost use Rattle.server.specs.Sessions.{queueIn, allPositive, allQueueable};
 ghost use Rattle.server.specs.Held.{Held};
 ghost use Rattle.exec.specs.Execution.{LaidOut};
 
@@ -18,6 +18,7 @@ pub fn lay_out(
 ) -> usize
     requires { ⌜ Held (now «session_words») (now «session_bytes») ⌝ }
     requires { ⌜ allPositive (part 68 (getD (now «session_words») 3 0) (now «session_words»)) ≡ true ⌝ }
+    requires { ⌜ allQueueable (queueIn (now «session_words») (now «session_bytes»)) ≡ true ⌝ }
     requires { ⌜ 1024 ≤ length (now places) ⌝ }
     requires { ⌜ 11520 ≤ length (now «data») ⌝ }
     ensures { λ r. ⌜ LaidOut (now («session_words» .entry)) (now («session_bytes» .entry)) (now («data» .entry)) (now (places .exit)) (now («data» .exit)) r ⌝ }

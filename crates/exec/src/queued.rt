@@ -7,9 +7,12 @@ use inside::Walked;
 use inside::counters;
 use inside::pairs;
 use inside::tombstones;
+ghost use mathlib.Core.Path.{_≡_};
+ghost use mathlib.Core.Bool.{true};
 ghost use Prim.Native.Nat.{_+_, _-_, _*_, _≤_};
 ghost use lib.ListN.{length, getD, take};
 ghost use Rattle.memtable.specs.Rows.{Valid, versionsIn};
+ghost use Rattle.server.specs.Names.{requestQueueable};
 ghost use Rattle.server.specs.Command.{commandOf, run};
 ghost use Rattle.server.specs.Places.{argumentsAt, PartsIn};
 ghost use Rattle.own.specs.Own.{Own, readerOf};
@@ -32,6 +35,7 @@ pub fn run_queued(
     requires { ⌜ Valid (now words) (now bytes) ⌝ }
     requires { ⌜ PartsIn (now places) (take (at .used) (now «data»)) count ⌝ }
     requires { ⌜ 1 ≤ count ⌝ }
+    requires { ⌜ requestQueueable (argumentsAt 0 count (now places) (take (at .used) (now «data»))) ≡ true ⌝ }
     requires { ⌜ 4 * (at .rows + (count - 1)) ≤ length (now own) ⌝ }
     requires { ⌜ at .used + 20 ≤ length (now «data») ⌝ }
     ensures { λ r. ⌜ Advanced (run (readerOf (now (own .entry)) (take (at .used) (now («data» .entry))) (at .rows) (now (words .entry)) (now (bytes .entry)) seq) (commandOf (argumentsAt 0 count (now (places .entry)) (take (at .used) (now («data» .entry)))))) (count - 1) (now (own .entry)) (now («data» .entry)) (now (out .entry)) at (now (own .exit)) (now («data» .exit)) (now (out .exit)) r ⌝ }

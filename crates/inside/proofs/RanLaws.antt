@@ -15,7 +15,7 @@ use Rattle.server.specs.Names.{Args, arguments}
 use Rattle.server.specs.Command.{put, tombstone, pairsOf}
 use Rattle.server.specs.Errors.{fixedReply}
 use Rattle.server.specs.Places.{argumentsAt, tombstonesAt, pairsAt}
-use Rattle.command.specs.Meant.{InPairs}
+use Rattle.command.specs.Kinds.{InPairs}
 use Rattle.own.specs.Own.{ownWrites, readerOf}
 use Rattle.own.specs.Changes.{OwnPuts}
 use Rattle.inside.specs.declared.Walked.{Walked}

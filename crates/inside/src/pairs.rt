@@ -4,7 +4,7 @@ use own::arguments;
 use server::Fixed;
 ghost use Prim.Native.Nat.{_+_, _-_, _*_, _≤_};
 ghost use lib.ListN.{length};
-ghost use Rattle.command.specs.Meant.{InPairs};
+ghost use Rattle.command.specs.Kinds.{InPairs};
 ghost use Rattle.server.specs.Places.{argumentsAt, PartsIn};
 ghost use Rattle.own.specs.Own.{Own};
 ghost use Rattle.command.specs.Kinds.{pairsEffect};

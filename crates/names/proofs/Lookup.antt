@@ -1,6 +1,6 @@
 -- Steps of comparing a word with a name, of the look-up, and of the tests of an argument count. Assumes nothing.
 use mathlib.Core.Path.{_≡_, refl, sym, ap, _∙_}
-use mathlib.Core.Bool.{Bool, true, false}
+use mathlib.Core.Bool.{Bool, true, false, not, _&&_}
 use mathlib.Core.List.{List, _∷_, map}
 use Prim.Native.Nat.{ℕ, _+_, _*_, _-_, _%_, _<_, _≤_}
 use native.Mathlib.Numerals.{add-one}
@@ -11,10 +11,10 @@ use lib.ListN.{length, getD, drop, drop-of-length-le, length-map}
 use lib.Seq.{drop-cons}
 use Rattle.key.specs.Bytes.{Bytes, _and_, sameBytes, part}
 use Rattle.key.proofs.Keys.{same-bytes, differ-by-length}
-use Rattle.server.specs.Names.{Row, rows, unknownRow, rowIn, rowOf, sameName, countRight, notAbove}
+use Rattle.server.specs.Names.{Row, rows, unknownRow, rowIn, rowOf, sameName, countRight, withOptions, operationOf, mayQueue, notAbove}
 use Rattle.resp.specs.Letters.{upper}
 use Rattle.names.specs.Rows.{rowAt, Looked}
-use Rattle.names.proofs.Table.{texts, lengths, part-is, how-many, mostOf, boundeds, mosts, leasts, pairs, least-is, most-is, pairs-is}
+use Rattle.names.proofs.Table.{texts, lengths, part-is, how-many, mostOf, boundeds, mosts, leasts, pairs, options, least-is, most-is, pairs-is, options-is}
 
 -- a name of another length is another name
 pub other-length : (w n : Bytes) → (length w ≡ length n → ⊥) → false ≡ sameName w n
@@ -111,3 +111,25 @@ module _ (k : ℕ) (h : k < 22) (n : ℕ) where
     pub any-count : b ≡ true → getD pairs k false ≡ false → true ≡ countRight (rowAt k) n
     unfolding countRight
     any-count e p = rw (← least-is k h, le-leb (getD leasts k 0) n l, ← is, e, ← pairs-is k h, p)
+
+-- WHETHER A COMMAND MAY BE QUEUED as it was sent
+module _ (k : ℕ) (n : ℕ) where
+  pub options-here : k < 22 → getD options k false ≡ true → not (eqb n 2) ≡ withOptions (operationOf (rowAt k .name)) n
+  options-here h e = sym (ap (λ (b : Bool). b && not (eqb n 2)) e) ∙ options-is k h n
+
+  pub no-options : k < 22 → getD options k false ≡ false → false ≡ withOptions (operationOf (rowAt k .name)) n
+  no-options h e = sym (ap (λ (b : Bool). b && not (eqb n 2)) e) ∙ options-is k h n
+
+  module _ {q : Bool} (is : q ≡ rowAt k .queueable) where
+    pub never-queued : q ≡ false → false ≡ mayQueue (rowAt k) n
+    unfolding mayQueue
+    never-queued e = ap (λ (b : Bool). b && countRight (rowAt k) n && not (withOptions (operationOf (rowAt k .name)) n)) (sym e ∙ is)
+
+    module _ (t : q ≡ true) {c : Bool} (counts : c ≡ countRight (rowAt k) n) where
+      pub miscounted : c ≡ false → false ≡ mayQueue (rowAt k) n
+      unfolding mayQueue
+      miscounted e = λ z. (sym t ∙ is) z && (sym e ∙ counts) z && not (withOptions (operationOf (rowAt k .name)) n)
+
+      pub by-options : c ≡ true → {o : Bool} → o ≡ withOptions (operationOf (rowAt k .name)) n → not o ≡ mayQueue (rowAt k) n
+      unfolding mayQueue
+      by-options e o-is = λ z. (sym t ∙ is) z && (sym e ∙ counts) z && not (o-is z)

@@ -1,19 +1,23 @@
 -- The tables of the code are the rows of the paper: one equation that antt computes. Assumes nothing.
 use mathlib.Core.Path.{_≡_, refl, sym, ap, _∙_}
-use mathlib.Core.Bool.{Bool, true, false}
+use mathlib.Core.Bool.{Bool, true, false, not, _&&_, false≢true}
 use mathlib.Core.List.{List, [], _∷_, _++_, map}
 use mathlib.Core.Option.{Option, none, some}
 use Prim.Native.Nat.{ℕ, zero, suc, _+_, _*_, _-_, _<_, _≤_}
 use native.Mathlib.Nat.{not-suc-le-zero, le-of-suc-le-suc, add-suc, add-zero, suc-add, zero-add}
+use native.Mathlib.Decide.{decLe}
 use native.Mathlib.Omega.{arith}
-use lib.ListN.{length, getD, take, drop, List·getD-map, length-take, length-drop}
+use lib.Dec.{eqb}
+use lib.ListN.{length, getD, take, drop, replicate, List·getD-append, List·getD-map, length-take, length-drop}
 use lib.Seq.{take-take}
 use Rattle.key.specs.Bytes.{part}
+use Rattle.server.specs.declared.Operation.{Operation}
+use Rattle.server.specs.declared.Operation.the-variants.{Get, Set, Del, Exists, Mget, Mset, Incr, Incrby, Decr, Ping, Echo}
 use Rattle.server.specs.declared.Name.{Name}
-use Rattle.server.specs.declared.Name.the-variants.{Get, Set, Del, Exists, Mget, Mset, Incr, Incrby, Decr, Ping, Echo, Dbsize, Keys, Scan, Range, Multi, Exec, Discard, Watch, Unwatch, Quit, Unknown}
+use Rattle.server.specs.declared.Name.the-variants.{Queueable, Dbsize, Keys, Scan, Range, Multi, Exec, Discard, Watch, Unwatch, Quit, Unknown}
 use Rattle.names.specs.declared.Control.{Control as Said}
 use Rattle.names.specs.declared.Control.the-variants as said
-use Rattle.server.specs.Names.{Row, row, rows, unknownRow, Control, MULTI, other, controlOf}
+use Rattle.server.specs.Names.{Row, row, rows, unknownRow, withOptions, operationOf, Control, MULTI, other, controlOf}
 use Rattle.names.specs.Rows.{rowAt, controlSaid}
 
 -- the constants of the code
@@ -23,8 +27,11 @@ texts = 71 ∷ 69 ∷ 84 ∷ 0 ∷ 0 ∷ 0 ∷ 0 ∷ 0 ∷ 83 ∷ 69 ∷ 84 ∷ 
 abbrev pub lengths : List ℕ
 lengths = 3 ∷ 3 ∷ 3 ∷ 6 ∷ 4 ∷ 4 ∷ 4 ∷ 6 ∷ 4 ∷ 4 ∷ 4 ∷ 6 ∷ 4 ∷ 4 ∷ 5 ∷ 5 ∷ 4 ∷ 7 ∷ 5 ∷ 7 ∷ 4 ∷ 0 ∷ []
 
+abbrev pub operations : List Operation
+operations = Get ∷ Set ∷ Del ∷ Exists ∷ Mget ∷ Mset ∷ Incr ∷ Incrby ∷ Decr ∷ Ping ∷ Echo ∷ []
+
 abbrev pub names : List Name
-names = Get ∷ Set ∷ Del ∷ Exists ∷ Mget ∷ Mset ∷ Incr ∷ Incrby ∷ Decr ∷ Ping ∷ Echo ∷ Dbsize ∷ Keys ∷ Scan ∷ Range ∷ Multi ∷ Exec ∷ Discard ∷ Watch ∷ Unwatch ∷ Quit ∷ Unknown ∷ []
+names = Dbsize ∷ Keys ∷ Scan ∷ Range ∷ Multi ∷ Exec ∷ Discard ∷ Watch ∷ Unwatch ∷ Quit ∷ Unknown ∷ []
 
 abbrev pub leasts : List ℕ
 leasts = 1 ∷ 2 ∷ 1 ∷ 1 ∷ 1 ∷ 2 ∷ 1 ∷ 2 ∷ 1 ∷ 0 ∷ 1 ∷ 0 ∷ 1 ∷ 1 ∷ 2 ∷ 0 ∷ 0 ∷ 0 ∷ 1 ∷ 0 ∷ 0 ∷ 0 ∷ []
@@ -41,6 +48,9 @@ pairs = false ∷ false ∷ false ∷ false ∷ false ∷ true ∷ false ∷ fal
 abbrev pub queueables : List Bool
 queueables = true ∷ true ∷ true ∷ true ∷ true ∷ true ∷ true ∷ true ∷ true ∷ true ∷ true ∷ false ∷ false ∷ false ∷ false ∷ false ∷ false ∷ false ∷ false ∷ false ∷ false ∷ false ∷ []
 
+abbrev pub options : List Bool
+options = false ∷ true ∷ false ∷ false ∷ false ∷ false ∷ false ∷ false ∷ false ∷ false ∷ false ∷ false ∷ false ∷ false ∷ false ∷ false ∷ false ∷ false ∷ false ∷ false ∷ false ∷ false ∷ []
+
 abbrev pub controls : List Said
 controls = said.Other ∷ said.Other ∷ said.Other ∷ said.Other ∷ said.Other ∷ said.Other ∷ said.Other ∷ said.Other ∷ said.Other ∷ said.Other ∷ said.Other ∷ said.Other ∷ said.Other ∷ said.Other ∷ said.Other ∷ said.Multi ∷ said.Exec ∷ said.Discard ∷ said.Watch ∷ said.Unwatch ∷ said.Quit ∷ said.Other ∷ []
 
@@ -51,7 +61,7 @@ mostOf false n = none
 -- the row that the constants of place k make
 abbrev pub tableRow : ℕ → Row
 tableRow k =
-    row (take (getD lengths k 0) (part (k * 8) 8 texts)) (getD names k Get) (getD leasts k 0) (mostOf (getD boundeds k false) (getD mosts k 0)) (getD pairs k false)
+    row (take (getD lengths k 0) (part (k * 8) 8 texts)) (getD (map Queueable operations ++ names) k Unknown) (getD leasts k 0) (mostOf (getD boundeds k false) (getD mosts k 0)) (getD pairs k false)
     (getD queueables k false)
 
 -- the rows of n places from k on
@@ -71,6 +81,10 @@ lengths-right = refl
 controls-right : map controlSaid controls ≡ map (λ (r : Row). controlOf (r .name)) (rows ++ unknownRow ∷ [])
 unfolding rows
 controls-right = refl
+
+options-right : (n : ℕ) → map (λ (b : Bool). b && not (eqb n 2)) options ≡ map (λ (r : Row). withOptions (operationOf (r .name)) n) (rows ++ unknownRow ∷ [])
+unfolding rows withOptions
+options-right n = refl
 
 pub how-many : length rows ≡ 21
 unfolding rows
@@ -92,6 +106,18 @@ any-default : {A : Type 0} (l : List A) (i : ℕ) (d e : A) → i < length l →
 any-default [] i d e h = absurd (not-suc-le-zero h)
 any-default (x ∷ l) zero d e h = refl
 any-default (x ∷ l) (suc i) d e h = any-default l i d e (le-of-suc-le-suc h)
+
+-- an element behind the first list
+default-past : {A : Type 0} (l m : List A) (i : ℕ) (d : A) → length l ≤ i → getD (l ++ m) i d ≡ getD m (i - length l) d
+default-past [] m i d h = let e : i ≡ i - 0 = omega arith in ap (λ (j : ℕ). getD m j d) e
+default-past (x ∷ l) m zero d h = absurd (omega arith)
+default-past (x ∷ l) m (suc i) d h =
+    let e : i - length l ≡ suc i - suc (length l) = omega arith in default-past l m i d (le-of-suc-le-suc h) ∙ ap (λ (j : ℕ). getD m j d) e
+
+all-false : (n i : ℕ) → getD (replicate n false) i false ≡ false
+all-false zero i = refl
+all-false (suc n) zero = refl
+all-false (suc n) (suc i) = all-false n i
 
 module _ (k : ℕ) (h : k < 22) where
   pub row-is : tableRow k ≡ rowAt k
@@ -118,8 +144,17 @@ module _ (k : ℕ) (h : k < 22) where
       let same : k * 8 + getD lengths k 0 - k * 8 ≡ getD lengths k 0 = omega arith in
       ap (λ (m : ℕ). part (k * 8) m texts) same ∙ sym (take-take (getD lengths k 0) 8 (drop (k * 8) texts) width) ∙ text-is
 
-  pub name-is : getD names k Get ≡ rowAt k .name
+  name-is : getD (map Queueable operations ++ names) k Unknown ≡ rowAt k .name
   name-is = ap (λ (r : Row). r .name) row-is
+
+  -- the operations stand first
+  pub operation-is : k < 11 → Queueable (getD operations k Get) ≡ rowAt k .name
+  operation-is f =
+      sym (List·getD-map Queueable operations k Get) ∙ any-default (map Queueable operations) k (Queueable Get) Unknown f
+      ∙ sym (List·getD-append (map Queueable operations) names Unknown k f) ∙ name-is
+
+  pub other-is : 11 ≤ k → getD names (k - 11) (Queueable Get) ≡ rowAt k .name
+  other-is f = any-default names (k - 11) (Queueable Get) Unknown (omega arith) ∙ sym (default-past (map Queueable operations) names k Unknown f) ∙ name-is
 
   pub control-is : controlSaid (getD controls k said.Multi) ≡ controlOf (rowAt k .name)
   unfolding rowAt
@@ -127,6 +162,13 @@ module _ (k : ℕ) (h : k < 22) where
       sym (List·getD-map controlSaid controls k said.Multi) ∙ any-default (map controlSaid controls) k MULTI other h
       ∙ ap (λ (l : List Control). getD l k other) controls-right ∙ List·getD-map (λ (r : Row). controlOf (r .name)) (rows ++ unknownRow ∷ []) k unknownRow
       ∙ ap (λ (r : Row). controlOf (r .name)) (default-behind rows k unknownRow)
+
+  pub options-is : (n : ℕ) → (getD options k false && not (eqb n 2)) ≡ withOptions (operationOf (rowAt k .name)) n
+  unfolding rowAt withOptions
+  options-is n =
+      sym (List·getD-map (λ (b : Bool). b && not (eqb n 2)) options k false)
+      ∙ ap (λ (l : List Bool). getD l k false) (options-right n) ∙ List·getD-map (λ (r : Row). withOptions (operationOf (r .name)) n) (rows ++ unknownRow ∷ []) k unknownRow
+      ∙ ap (λ (r : Row). withOptions (operationOf (r .name)) n) (default-behind rows k unknownRow)
 
   pub least-is : getD leasts k 0 ≡ rowAt k .least
   least-is = ap (λ (r : Row). r .least) row-is
@@ -139,3 +181,13 @@ module _ (k : ℕ) (h : k < 22) where
 
   pub queueable-is : getD queueables k false ≡ rowAt k .queueable
   queueable-is = ap (λ (r : Row). r .queueable) row-is
+
+  pub queueable-first : rowAt k .queueable ≡ true → k < 11
+  queueable-first e = go (decLe 11 k)
+    where
+      go : Dec (11 ≤ k) → k < 11
+      go (yes f) =
+          absurd
+          (false≢true
+          (sym (all-false 11 (k - 11)) ∙ sym (default-past (replicate 11 true) (replicate 11 false) k false f) ∙ queueable-is ∙ e))
+      go (no f) = omega (arith, f)

@@ -1,8 +1,11 @@
 // The table of commands (`specs/Names.antt` of `server`): a constant for each column, its last entry for an unknown name.
 use server::Name;
+use server::Operation;
 ghost use mathlib.Core.Path.{_≡_};
+ghost use mathlib.Core.Bool.{true};
 ghost use Prim.Native.Nat.{_<_};
-ghost use Rattle.server.specs.Names.{sameName, countRight, notAbove, controlOf};
+ghost use Rattle.server.specs.Names.{sameName, countRight, withOptions, operationOf, mayQueue, notAbove, controlOf};
+ghost use Rattle.server.specs.declared.Name.the-variants.{Queueable};
 ghost use Rattle.names.specs.Rows.{rowAt, Looked, controlSaid};
 
 // The place of the row behind the last: a name that is no command.
@@ -60,18 +63,25 @@ const LENGTHS: [usize; 22] = [
     0,
 ];
 
-const NAMES: [Name; 22] = [
-    Name::Get,
-    Name::Set,
-    Name::Del,
-    Name::Exists,
-    Name::Mget,
-    Name::Mset,
-    Name::Incr,
-    Name::Incrby,
-    Name::Decr,
-    Name::Ping,
-    Name::Echo,
+// How many names may be queued; they stand first.
+const OPERATION_COUNT: usize = 11;
+
+const OPERATIONS: [Operation; 11] = [
+    Operation::Get,
+    Operation::Set,
+    Operation::Del,
+    Operation::Exists,
+    Operation::Mget,
+    Operation::Mset,
+    Operation::Incr,
+    Operation::Incrby,
+    Operation::Decr,
+    Operation::Ping,
+    Operation::Echo,
+];
+
+// The names behind them.
+const NAMES: [Name; 11] = [
     Name::Dbsize,
     Name::Keys,
     Name::Scan,
@@ -211,6 +221,32 @@ const QUEUEABLE: [bool; 22] = [
     false,
 ];
 
+// The names that have options in Redis.
+const OPTIONS: [bool; 22] = [
+    false,
+    true,
+    false,
+    false,
+    false,
+    false,
+    false,
+    false,
+    false,
+    false,
+    false,
+    false,
+    false,
+    false,
+    false,
+    false,
+    false,
+    false,
+    false,
+    false,
+    false,
+    false,
+];
+
 const CONTROLS: [Control; 22] = [
     Control::Other,
     Control::Other,
@@ -247,11 +283,23 @@ pub enum Control {
     Other,
 }
 
+// The operation of a name that may be queued.
+pub fn operation_at(row: usize) -> Operation
+    requires { ⌜ row < 22 ⌝ }
+    requires { ⌜ rowAt row .queueable ≡ true ⌝ }
+    ensures { λ r. ⌜ rowAt row .name ≡ Queueable r ⌝ }
+{
+    OPERATIONS[row]
+}
+
 pub fn name_at(row: usize) -> Name
     requires { ⌜ row < 22 ⌝ }
     ensures { λ r. ⌜ r ≡ rowAt row .name ⌝ }
 {
-    NAMES[row]
+    if row < OPERATION_COUNT {
+        return Name::Queueable(OPERATIONS[row]);
+    }
+    NAMES[row - OPERATION_COUNT]
 }
 
 pub fn queueable(row: usize) -> bool
@@ -285,6 +333,31 @@ pub fn count_right(row: usize, count: usize) -> bool
             return count % 2 == 0;
         }
         return true;
+    }
+    false
+}
+
+// Is this SET with options, by its `count` of arguments, the name not counted?
+pub fn with_options(row: usize, count: usize) -> bool
+    requires { ⌜ row < 22 ⌝ }
+    ensures { λ r. ⌜ r ≡ withOptions (operationOf (rowAt row .name)) count ⌝ }
+{
+    if OPTIONS[row] {
+        return count != 2;
+    }
+    false
+}
+
+// May a command with `count` arguments, the name not counted, be queued as it was sent?
+pub fn may_queue(row: usize, count: usize) -> bool
+    requires { ⌜ row < 22 ⌝ }
+    ensures { λ r. ⌜ r ≡ mayQueue (rowAt row) count ⌝ }
+{
+    if queueable(row) {
+        if count_right(row, count) {
+            return !with_options(row, count);
+        }
+        return false;
     }
     false
 }

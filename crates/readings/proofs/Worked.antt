@@ -1,11 +1,11 @@
 -- Worked calls, computed: what posting makes of seven of them, and answers that no refusal, fixed reply or invented count gives.
-use Prim.Native.Nat.{ℕ}
+use Prim.Native.Nat.{ℕ, _-_}
 use Prim.Native.String.{String}
 use mathlib.Core.List.{List, [], _∷_, _++_, map}
 use mathlib.Core.Bool.{Bool, false, not}
 use lib.Dec.{T, eqb}
-use lib.ListN.{replicate}
-use Rattle.key.specs.Bytes.{bytes, sameBytes}
+use lib.ListN.{length, replicate}
+use Rattle.key.specs.Bytes.{Bytes, bytes, sameBytes, concat}
 use Rattle.server.specs.Sessions.{sessionOk}
 use Rattle.calls.specs.Calls.{Lent, open-call, request-call, Call, request, grouped}
 use Rattle.calls.specs.Posting.{Item, alone, listed, exec, member}
@@ -142,3 +142,59 @@ refusing =
 refusing-holds : T (every refusing)
 unfolding calls-opens refusing every after
 refusing-holds = tt
+
+-- A WRONG ARGUMENT COUNT (document 02, R-8). SET a 1 queued
+unfoldable begun : Lent
+begun = after (line 0 "MULTI" ∷ line 0 "SET a 1" ∷ []) opened
+
+-- what EXEC answers after one more line
+abbrev execThen : String → String → Bool
+execThen text = replies (answerTo (line 0 "EXEC") (after (line 0 text ∷ []) begun))
+
+-- a lent session inside MULTI, `failed` its mark, with one queued command of these arguments
+abbrev lentWords : ℕ → List Bytes → List ℕ
+lentWords failed args = 1 ∷ failed ∷ 0 ∷ 1 ∷ (replicate 64 0 ++ length args ∷ (replicate 63 0 ++ (map length args ++ replicate (512 - length args) 0)))
+
+abbrev lentBytes : List Bytes → Bytes
+lentBytes args = replicate 2048 0 ++ (concat args ++ replicate (8192 - length (concat args)) 0)
+
+abbrev lentOk : ℕ → List Bytes → Bool
+lentOk failed args = sessionOk 0 (lentWords failed args) (lentBytes args)
+
+-- the first of sixteen
+abbrev lentQueue : List Bytes → Lent
+lentQueue args = record {
+  words = opened .words;
+  bytes = opened .bytes;
+  sessionWords = lentWords 0 args ++ replicate 9660 0;
+  sessionBytes = lentBytes args ++ replicate 153600 0;
+}
+
+unfoldable queueing : List Bool
+queueing =
+    -- a wrong argument count queues nothing and marks
+    replies (answerTo (line 0 "SET a") begun) "-ERR wrong number of arguments for 'set' command\r\n"
+    ∷ execThen "SET a" "-EXECABORT Transaction discarded because of previous errors.\r\n"
+    -- so does SET with options
+    ∷ replies (answerTo (line 0 "SET a 1 EX 5") begun) "-ERR SET options (EX, NX, ...) are not supported\r\n"
+    ∷ execThen "SET a 1 EX 5" "-EXECABORT Transaction discarded because of previous errors.\r\n"
+    -- a name that cannot be queued keeps its text; WATCH and MULTI mark nothing
+    ∷ replies (answerTo (line 0 "SCAN") begun) "-ERR 'SCAN' can't be used inside MULTI\r\n"
+    ∷ execThen "WATCH" "*1\r\n+OK\r\n"
+    ∷ execThen "MULTI" "*1\r\n+OK\r\n"
+    -- an amount that is no number is queued
+    ∷ execThen "INCRBY n x" "*2\r\n+OK\r\n-ERR value is not an integer or out of range\r\n"
+    -- lent queues: 9, marked or not
+    ∷ eqb (answerTo (line 1 "PING") (lentQueue (bytes "GET" ∷ [])) .number) 9
+    ∷ not (lentOk 0 (bytes "GET" ∷ []))
+    ∷ not (lentOk 1 (bytes "GET" ∷ []))
+    ∷ not (lentOk 0 (bytes "SET" ∷ bytes "a" ∷ []))
+    ∷ not (lentOk 0 (bytes "SET" ∷ bytes "a" ∷ bytes "1" ∷ bytes "EX" ∷ bytes "5" ∷ []))
+    ∷ not (lentOk 0 (bytes "MSET" ∷ bytes "a" ∷ bytes "1" ∷ bytes "b" ∷ []))
+    ∷ lentOk 0 (bytes "INCRBY" ∷ bytes "a" ∷ bytes "x" ∷ [])
+    ∷ lentOk 0 (bytes "GET" ∷ bytes "a" ∷ [])
+    ∷ []
+
+queueing-holds : T (every queueing)
+unfolding calls-opens queueing every after begun
+queueing-holds = tt

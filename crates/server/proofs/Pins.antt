@@ -2,7 +2,7 @@
 -- command that are accepted say so.
 use Prim.Native.Nat.{ℕ, _+_}
 use native.Mathlib.Omega.{arith}
-use mathlib.Core.Bool.{Bool, true, false, cond}
+use mathlib.Core.Bool.{Bool, true, false, cond, not, _&&_, false≢true}
 use mathlib.Core.List.{List, [], _∷_, _++_, map}
 use mathlib.Core.Option.{Option, none, some}
 use mathlib.Core.Path.{_≡_, refl, ap, _∙_}
@@ -16,9 +16,12 @@ use Rattle.memtable.specs.Table.{Value, Reader, find}
 use Rattle.memtable.specs.Versions.{Store, commit}
 use Rattle.batch.specs.declared.Verdict.the-variants.{Accepted}
 use Rattle.batch.specs.Group.{among}
-use Rattle.server.specs.Names.{Args}
-use Rattle.server.specs.Command.{DEL, EXISTS, Effect, tombstone, liveOne, live, run}
-use Rattle.server.specs.Session.{watchedKeys, Session, clear, Done, says, returns, marked, committed, addKeys, watchFits, watching, queueFits, queuedReply, enqueue, verdictExec, execute}
+use Rattle.key.proofs.Bytes.{both-parts}
+use Rattle.server.specs.declared.Name.{Name}
+use Rattle.server.specs.declared.Name.the-variants.{Queueable}
+use Rattle.server.specs.Names.{Args, Row, rows, rowIn, rowOf, sameName, nameWord, arguments, countRight, withOptions, operationOf, mayQueue, requestQueueable, arity, other}
+use Rattle.server.specs.Command.{DEL, EXISTS, runs, fixed, Effect, setOptions, commandAs, executedAs, executedOf, commandOf, tombstone, liveOne, live, run}
+use Rattle.server.specs.Session.{watchedKeys, Session, clear, Done, says, returns, marked, committed, addKeys, watchFits, watching, queueFits, queuedReply, enqueue, queueUp, verdictExec, execute, insideMulti}
 use Rattle.server.specs.Sessions.{ascending}
 use Rattle.server.specs.Finish.{silent, fitted}
 use Rattle.server.proofs.WatchLaws.{carried, adds-carry}
@@ -88,3 +91,67 @@ enqueue-leaves q a st s = go (queueFits (q ++ a ∷ []))
     go : (b : Bool) → cond b (says queuedReply st (record { queue = some (q ++ a ∷ []); failed = s .failed; watch = s .watch })) (returns 4 st (marked s)) .store ≡ st
     go true = refl
     go false = refl
+
+-- INSIDE MULTI, one of the eleven: a wrong argument count is answered by its error, queues nothing and marks the session
+module _ (q : List Args) (r : Row) (a : Args) (st : Store) (s : Session) (named : r .queueable ≡ true) where
+  pub wrong-count : countRight r (length (arguments a)) ≡ false → insideMulti other q r a st s ≡ says (arity r) st (marked s)
+  unfolding insideMulti queueUp
+  wrong-count e = rw (e, named)
+
+  -- so does SET with options
+  pub options-refused : countRight r (length (arguments a)) ≡ true → withOptions (operationOf (r .name)) (length (arguments a)) ≡ true
+      → insideMulti other q r a st s ≡ says setOptions st (marked s)
+  unfolding insideMulti queueUp
+  options-refused e f = rw (e, f, named)
+
+  -- and any other joins the queue, whatever its arguments are, or returns 4
+  pub right-joins : countRight r (length (arguments a)) ≡ true → withOptions (operationOf (r .name)) (length (arguments a)) ≡ false → insideMulti other q r a st s ≡ enqueue q a st s
+  unfolding insideMulti queueUp
+  right-joins e f = rw (e, f, named)
+
+-- A QUEUED COMMAND is what the same request means outside MULTI: no wrong argument count, no options, no unknown name is among them.
+-- The names that are marked as queueable are those of operations
+data AllNamed : List Row → Type 0 where
+  nil : AllNamed []
+  cons : {r : Row} {rs : List Row} → (r .queueable ≡ true → r .name ≡ Queueable (operationOf (r .name))) → AllNamed rs → AllNamed (r ∷ rs)
+
+off : (b : Bool) → not b ≡ true → b ≡ false
+off false e = refl
+off true e = absurd (false≢true e)
+
+no-row : {A : Type 0} → false ≡ true → A
+no-row e = absurd (false≢true e)
+
+all-named : AllNamed rows
+unfolding rows
+all-named =
+    cons (λ e. refl) (cons (λ e. refl) (cons (λ e. refl) (cons (λ e. refl) (cons (λ e. refl) (cons (λ e. refl) (cons (λ e. refl) (cons (λ e. refl) (cons (λ e. refl) (cons (λ e. refl) (cons (λ e. refl)
+    (cons no-row (cons no-row (cons no-row (cons no-row (cons no-row (cons no-row (cons no-row (cons no-row (cons no-row (cons no-row nil))))))))))))))))))))
+
+named-in : (rs : List Row) (word : Bytes) → AllNamed rs → rowIn rs word .queueable ≡ true → rowIn rs word .name ≡ Queueable (operationOf (rowIn rs word .name))
+unfolding rowIn
+named-in [] word nil = no-row
+named-in (r ∷ rs) word (cons n ns) = go (sameName word (r .text)) (named-in rs word ns)
+  where
+    Right : Row → Type 0
+    Right x = x .queueable ≡ true → x .name ≡ Queueable (operationOf (x .name))
+
+    go : (b : Bool) → Right (rowIn rs word) → Right (elim b [ true ↦ r | false ↦ rowIn rs word ])
+    go true again = n
+    go false again = again
+
+pub queued-read : (a : Args) → requestQueueable a ≡ true → executedOf a ≡ runs (commandOf a)
+unfolding requestQueueable mayQueue rowOf executedOf executedAs commandOf
+queued-read a h = go (rowIn rows (nameWord a)) (named-in rows (nameWord a) all-named) h
+  where
+    n : ℕ
+    n = length (arguments a)
+
+    go : (r : Row) → (r .queueable ≡ true → r .name ≡ Queueable (operationOf (r .name))) → (r .queueable && countRight r n && not (withOptions (operationOf (r .name)) n)) ≡ true
+        → cond (countRight r n) (executedAs (r .name) (nameWord a) (arguments a)) (fixed (arity r)) ≡ runs (commandAs (operationOf (r .name)) (arguments a))
+    go r named e =
+        let right = both-parts (r .queueable && countRight r n) (not (withOptions (operationOf (r .name)) n)) e in
+        let counted = both-parts (r .queueable) (countRight r n) (right .0) in
+        ap (λ (b : Bool). cond b (executedAs (r .name) (nameWord a) (arguments a)) (fixed (arity r))) (counted .1)
+        ∙ ap (λ (x : Name). executedAs x (nameWord a) (arguments a)) (named (counted .0))
+        ∙ ap (λ (b : Bool). cond b (fixed setOptions) (runs (commandAs (operationOf (r .name)) (arguments a)))) (off (withOptions (operationOf (r .name)) n) (right .1))

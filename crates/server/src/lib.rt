@@ -2,8 +2,8 @@
 pub mod pattern;
 pub mod watched;
 
-// The command that a name means.
-pub enum Name {
+// The commands that may be queued.
+pub enum Operation {
     Get,
     Set,
     Del,
@@ -15,6 +15,11 @@ pub enum Name {
     Decr,
     Ping,
     Echo,
+}
+
+// What a name means.
+pub enum Name {
+    Queueable(Operation),
     Dbsize,
     Keys,
     Scan,

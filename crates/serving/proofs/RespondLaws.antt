@@ -17,10 +17,10 @@ use Rattle.batch.specs.declared.Verdict.{Verdict}
 use Rattle.batch.specs.Group.{plain, verdictAlone, isAccepted, verdictByte}
 use Rattle.batch.specs.Settling.{KeyIn}
 use Rattle.server.specs.declared.Answer.{Answer}
-use Rattle.server.specs.Names.{Args, Row, rowOf, nameWord, arguments, countRight, arity, controlOf}
+use Rattle.server.specs.Names.{Args, Row, rowOf, nameWord, arguments, countRight, withOptions, operationOf, arity, controlOf}
 use Rattle.names.specs.Rows.{rowAt, Looked}
-use Rattle.server.specs.Command.{Effect, Executed, runs, lists, executedOf, run}
-use Rattle.server.specs.Session.{watchedKeys, Session, Result, number, reply, Done, says, returns, committed, direct, execute, respond, addKeys, watchFits, enqueue, queueFits, queuedReply, marked}
+use Rattle.server.specs.Command.{Effect, Executed, runs, lists, setOptions, executedOf, run}
+use Rattle.server.specs.Session.{watchedKeys, Session, Result, number, reply, Done, says, returns, committed, direct, execute, respond, addKeys, watchFits, enqueue, queueUp, queueFits, queuedReply, marked}
 use Rattle.server.specs.Sessions.{yes?, queueIn, queueOf, sessionFrom, sessionWords, sessionBytes}
 use Rattle.server.specs.Held.{Held}
 use Rattle.server.specs.Finish.{Served, silent, fitted, finishBy, finish}
@@ -39,7 +39,7 @@ use Rattle.session.specs.declared.routes.Way.the-variants.{Steer, Watch, Queue,
 use Rattle.session.specs.declared.routes.Route.{Route}
 use Rattle.session.specs.declared.routes.Route.the-variants.{Here, Exec, Run}
 use Rattle.session.specs.Answers.{changing, AnsweredAt, AnsweredWith}
-use Rattle.session.specs.Routes.{routeBy, stepDone, queueing, watchDone, watchingAt, wayDone, routeDone}
+use Rattle.session.specs.Routes.{routeBy, stepDone, queueDone, watchDone, watchingAt, wayDone, routeDone}
 use Rattle.session.specs.Responds.{responded, Left, Ready}
 use Rattle.session.proofs.Routing.{name-first, request-routed}
 use Rattle.session.proofs.Requested.{here-answers, exec-request, run-request}
@@ -87,7 +87,7 @@ either-store false x y st p q = q
 
 -- a request that the session answers
 way-store : (way : Way) (r : Row) (a : Args) (st : Store) (s : Session) → wayDone way r a st s .store ≡ st
-unfolding wayDone watchDone watchingAt queueing enqueue changing
+unfolding wayDone watchDone watchingAt queueDone queueUp enqueue changing
 way-store (Steer x) r a st s = step-store x st s
 way-store Watch r a st s =
     let ks : List Key = watchedKeys (addKeys (st .last) (arguments a) (s .watch)) in
@@ -95,7 +95,10 @@ way-store Watch r a st s =
     (either-store (watchFits ks) (says ok st (watchingWith (arguments a) (st .last) s)) (returns 5 st s) st refl refl) refl
 way-store Queue r a st s =
     let q : List Args = queueOf (s .queue) ++ a ∷ [] in
-    either-store (queueFits q) (says queuedReply st (record { queue = some q; failed = s .failed; watch = s .watch })) (returns 4 st (marked s)) st refl refl
+    let n : ℕ = length (arguments a) in
+    either-store (countRight r n) (cond (withOptions (operationOf (r .name)) n) (says setOptions st (marked s)) (enqueue (queueOf (s .queue)) a st s)) (says (arity r) st (marked s)) st
+    (either-store (withOptions (operationOf (r .name)) n) (says setOptions st (marked s)) (enqueue (queueOf (s .queue)) a st s) st refl
+    (either-store (queueFits q) (says queuedReply st (record { queue = some q; failed = s .failed; watch = s .watch })) (returns 4 st (marked s)) st refl refl)) refl
 way-store NotQueueable r a st s = refl
 
 -- a command outside MULTI

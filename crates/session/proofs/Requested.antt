@@ -29,7 +29,7 @@ use Rattle.session.specs.declared.routes.Route.the-variants.{Here, Exec,
 use Rattle.session.specs.declared.routes.Way.{Way}
 use Rattle.session.specs.declared.routes.Way.the-variants.{Steer, Watch, Queue, NotQueueable}
 use Rattle.session.specs.Answers.{changing, Answered, AnsweredAt, AnsweredWith, Steered}
-use Rattle.session.specs.Routes.{routeBy, stepDone, queueing, watchDone, wayDone, routeDone}
+use Rattle.session.specs.Routes.{routeBy, stepDone, queueDone, watchDone, wayDone, routeDone}
 use Rattle.answer.proofs.Finish.{replied}
 use Rattle.session.proofs.Routing.{name-first, request-routed}
 
@@ -55,8 +55,8 @@ module _ {way : Way} {last : ℕ} {w w′ : List ℕ} {b : Bytes} (h : Held w b)
       (λ st s l. rw e (unfold wayDone in ap (λ (t : Bytes). changing (notQueueable t) marked st s) (name-first count places input k ∙ sym n))) (x .is b h)
 
 module _ {way : Way} {last : ℕ} {w w′ : List ℕ} {b b′ : Bytes} {used : ℕ} {out out′ : Bytes} {r : Answer} where
-  pub way-queues : (row : Row) (a : Args) → way ≡ Queue → Answered (queueing a) w w′ b b′ used out r out′ → AnsweredWith last (wayDone way row a) w w′ b b′ used out r out′
-  way-queues row a e x = answered-with (queueing a) (wayDone way row a) (λ st s l. rw e (unfold wayDone in refl)) x
+  pub way-queues : (row : Row) (a : Args) → way ≡ Queue → Answered (queueDone row a) w w′ b b′ used out r out′ → AnsweredWith last (wayDone way row a) w w′ b b′ used out r out′
+  way-queues row a e x = answered-with (queueDone row a) (wayDone way row a) (λ st s l. rw e (unfold wayDone in refl)) x
 
   pub way-watches : (row : Row) (count : ℕ) (places : List ℕ) (input : Bytes) → 1 ≤ count → way ≡ Watch → Answered (watchDone row (argumentsAt 1 (count - 1) places input) last) w w′ b b′ used out r out′
       → AnsweredWith last (wayDone way row (argumentsAt 0 count places input)) w w′ b b′ used out r out′

@@ -14,7 +14,7 @@ use Rattle.server.specs.declared.Fixed.the-variants.{Ok}
 use Rattle.names.specs.declared.Control.{Control as Said}
 use Rattle.server.specs.Names.{Args, Row, rowOf, nameWord, controlOf, Control, MULTI, EXEC, DISCARD, WATCH, UNWATCH, QUIT, other}
 use Rattle.names.specs.Rows.{rowAt, Looked, controlSaid}
-use Rattle.server.specs.Session.{Session, says, watching, enqueue, notQueueable, outsideMulti, insideMulti, respondBy, respond, marked}
+use Rattle.server.specs.Session.{Session, says, watching, queueUp, notQueueable, outsideMulti, insideMulti, respondBy, respond, marked}
 use Rattle.server.specs.Sessions.{yes?, queueIn, sessionFrom, multiOf}
 use Rattle.server.specs.Errors.{fixedReply}
 use Rattle.server.specs.Held.{Held, cleared, opened, unwatched}
@@ -27,7 +27,7 @@ use Rattle.session.specs.declared.routes.Route.the-variants.{Here}
 use Rattle.session.specs.declared.routes.Way.{Way}
 use Rattle.session.specs.declared.routes.Way.the-variants.{Steer, Queue, NotQueueable}
 use Rattle.session.specs.Answers.{changing, same, Steered, Unchanged}
-use Rattle.session.specs.Routes.{outsideRoute, insideRoute, routeBy, stepDone, queueing, watchingAt, watchDone, wayDone, routeDone, Steerable, Taken}
+use Rattle.session.specs.Routes.{outsideRoute, insideRoute, routeBy, stepDone, queueDone, watchingAt, watchDone, wayDone, routeDone, Steerable, Taken}
 
 -- the route from its table
 module _ (said : Said) {c : Control} {r : Route} (same-name : controlSaid said ≡ c) where
@@ -51,7 +51,7 @@ outside-branch QUIT r a st s = refl
 outside-branch other r a st s = refl
 
 inside-branch : (c : Control) (q : List Args) (r : Row) (a : Args) (st : Store) (s : Session) → s .queue ≡ some q → insideMulti c q r a st s ≡ routeDone (insideRoute c (r .queueable)) r a st s
-unfolding insideMulti insideRoute routeDone wayDone stepDone changing fixedReply queueing
+unfolding insideMulti insideRoute routeDone wayDone stepDone changing fixedReply queueDone
 inside-branch MULTI q r a st s e = refl
 inside-branch EXEC q r a st s e = rw e
 inside-branch DISCARD q r a st s e = refl
@@ -60,8 +60,8 @@ inside-branch UNWATCH q r a st s e = refl
 inside-branch QUIT q r a st s e = refl
 inside-branch other q r a st s e = go (r .queueable)
   where
-    go : (v : Bool) → cond v (enqueue q a st s) (says (notQueueable (nameWord a)) st (marked s)) ≡ routeDone (Here (cond v Queue NotQueueable)) r a st s
-    go true = unfold routeDone wayDone queueing in rw e
+    go : (v : Bool) → cond v (queueUp q r a st s) (says (notQueueable (nameWord a)) st (marked s)) ≡ routeDone (Here (cond v Queue NotQueueable)) r a st s
+    go true = unfold routeDone wayDone queueDone in rw e
     go false = unfold routeDone wayDone changing in refl
 
 pub respond-routed : (r : Row) (a : Args) (st : Store) (s : Session) → respondBy (s .queue) r a st s ≡ routeDone (routeBy (multiOf (s .queue)) (controlOf (r .name)) (r .queueable)) r a st s

@@ -9,7 +9,7 @@ use Rattle.memtable.specs.Versions.{Store}
 use Rattle.server.specs.declared.Fixed.the-variants.{Ok, ExecAlone, DiscardAlone, NestedMulti, WatchInside}
 use Rattle.server.specs.Names.{Args, Row, nameWord, arguments, countRight, arity, Control, MULTI, EXEC, DISCARD, WATCH, UNWATCH, QUIT, other}
 use Rattle.server.specs.Command.{executedOf}
-use Rattle.server.specs.Session.{watchedKeys, Session, Done, says, returns, direct, addKeys, watchFits, enqueue, marked, notQueueable, execute}
+use Rattle.server.specs.Session.{watchedKeys, Session, Done, says, returns, direct, addKeys, watchFits, enqueue, queueUp, marked, notQueueable, execute}
 use Rattle.server.specs.Sessions.{queueOf}
 use Rattle.server.specs.Errors.{fixedReply}
 use Rattle.server.specs.Held.{cleared, opened, unwatched}
@@ -54,9 +54,13 @@ stepDone Unwatch = changing (fixedReply Ok) unwatched
 stepDone Clear = changing (fixedReply Ok) cleared
 stepDone (Reply f) = changing (fixedReply f) same
 
--- a command that may be queued
+-- a command of right argument count that may be queued
 unfoldable pub queueing : Args → Store → Session → Done
 queueing a st s = enqueue (queueOf (s .queue)) a st s
+
+-- one of the eleven, by its row
+unfoldable pub queueDone : Row → Args → Store → Session → Done
+queueDone r a st s = queueUp (queueOf (s .queue)) r a st s
 
 -- WATCH of keys, by the store's last sequence
 unfoldable pub watchingAt : List Key → ℕ → Store → Session → Done
@@ -70,7 +74,7 @@ watchDone r ks last st s = cond (countRight r (length ks)) (watchingAt ks last s
 unfoldable pub wayDone : Way → Row → Args → Store → Session → Done
 wayDone (Steer x) r a st s = stepDone x st s
 wayDone Watch r a st s = watchDone r (arguments a) (st .last) st s
-wayDone Queue r a st s = queueing a st s
+wayDone Queue r a st s = queueDone r a st s
 wayDone NotQueueable r a st s = changing (notQueueable (nameWord a)) marked st s
 
 unfoldable pub routeDone : Route → Row → Args → Store → Session → Done

@@ -52,7 +52,7 @@ pub fn answer(
             out,
             used,
         ),
-        Way::Queue => queueing::queue_command(words, bytes, input, places, count, out, used),
+        Way::Queue => queueing::queue_up(words, bytes, input, places, count, word, row, out, used),
         Way::NotQueueable => steer::not_queueable(words, word, out, used),
     }
 }

@@ -8,7 +8,7 @@ ghost use mathlib.Core.Path.{_≡_};
 ghost use lib.ListN.{length, getD, replicate};
 ghost use Rattle.server.specs.declared.Fixed.the-variants as fixed;
 ghost use Rattle.server.specs.Session.{marked, notQueueable};
-ghost use Rattle.server.specs.Errors.{fixedReply};
+ghost use Rattle.server.specs.Errors.{fixedReply, arityOf};
 ghost use Rattle.server.specs.Held.{cleared, opened, unwatched};
 ghost use Rattle.session.specs.Answers.{changing, Steered};
 ghost use Rattle.session.specs.Routes.{stepDone, Steerable};
@@ -74,6 +74,42 @@ pub fn not_queueable(words: &mut [u64], word: &[u8], out: &mut [u8], used: usize
     ensures { λ r. ⌜ Steered (changing (notQueueable (now (word .entry))) marked) (now (words .entry)) (now (words .exit)) used (now (out .entry)) r (now (out .exit)) ⌝ }
 {
     let put = errors::put_not_queueable(out, word);
+    let Put::Wrote(len) = put else {
+        return answer::refusal(3);
+    };
+    changes::mark_failed(words);
+    Answer {
+        number: 0,
+        used: used,
+        reply: len,
+    }
+}
+
+// Inside MULTI, a wrong argument count of the command `word`: the error marks the session failed.
+pub fn refuse_count(words: &mut [u64], word: &[u8], out: &mut [u8], used: usize) -> Answer
+    requires { ⌜ length (now words) ≡ 645 ⌝ }
+    requires { ⌜ now out ≡ replicate (length (now out)) 0 ⌝ }
+    ensures { λ r. ⌜ Steered (changing (arityOf (now (word .entry))) marked) (now (words .entry)) (now (words .exit)) used (now (out .entry)) r (now (out .exit)) ⌝ }
+{
+    let put = errors::put_arity(out, word);
+    let Put::Wrote(len) = put else {
+        return answer::refusal(3);
+    };
+    changes::mark_failed(words);
+    Answer {
+        number: 0,
+        used: used,
+        reply: len,
+    }
+}
+
+// Inside MULTI, SET with options: the error marks the session failed.
+pub fn refuse_options(words: &mut [u64], out: &mut [u8], used: usize) -> Answer
+    requires { ⌜ length (now words) ≡ 645 ⌝ }
+    requires { ⌜ now out ≡ replicate (length (now out)) 0 ⌝ }
+    ensures { λ r. ⌜ Steered (changing (fixedReply fixed.SetOptions) marked) (now (words .entry)) (now (words .exit)) used (now (out .entry)) r (now (out .exit)) ⌝ }
+{
+    let put = errors::put_fixed(out, Fixed::SetOptions);
     let Put::Wrote(len) = put else {
         return answer::refusal(3);
     };

@@ -10,8 +10,9 @@ use lib.Dec.{leb}
 use lib.ListN.{length, getD, take, drop}
 use lib.Seq.{drop-drop}
 use Rattle.key.specs.Bytes.{Bytes, _and_, part, total}
+use Rattle.key.proofs.Bytes.{length-part}
 use Rattle.key.specs.Keys.{keyBelow}
-use Rattle.server.specs.Names.{Row, rowOf, nameWord}
+use Rattle.server.specs.Names.{Row, rowOf, nameWord, arguments, mayQueue, requestQueueable}
 use Rattle.names.specs.Rows.{rowAt, Looked}
 use Rattle.server.specs.Sessions.{splitBy, ascending, ascendingAfter, allPositive, allQueueable, yes?, noneAbove}
 use Rattle.server.specs.Lent.{capped, KeysIn, QueueIn}
@@ -145,12 +146,12 @@ module _ {w : List ℕ} {b : Bytes} {count : ℕ} (k : KeysIn w b count) where
     unfolding splitBy ascendingAfter
     risen h = sym (r .is ∙ ap (λ (l : List ℕ). ascendingAfter (part start (end - start) b) (splitBy l (drop end (part 0 2048 b)))) (part-none w 4 count i h))
 
--- THE NAMES. One name, by its row
-pub name-found : (w : List ℕ) (b : Bytes) (first start : ℕ) {n r : ℕ} {v : Bool} → n ≡ getD w (132 + first) 0 → Looked (part (2048 + start) (2048 + start + n - (2048 + start)) b) r
-    → v ≡ rowAt r .queueable → v ≡ rowOf (part (2048 + start) (getD w (132 + first) 0) b) .queueable
-name-found w b first start {n} {r} e l q =
+-- THE COMMANDS. One command, by the row of its name
+pub name-found : (w : List ℕ) (b : Bytes) (first start size : ℕ) {n r : ℕ} {v : Bool} → n ≡ getD w (132 + first) 0 → Looked (part (2048 + start) (2048 + start + n - (2048 + start)) b) r
+    → v ≡ mayQueue (rowAt r) (size - 1) → v ≡ mayQueue (rowOf (part (2048 + start) (getD w (132 + first) 0) b)) (size - 1)
+name-found w b first start size {n} {r} e l q =
     let m : 2048 + start + n - (2048 + start) ≡ getD w (132 + first) 0 = omega arith in
-    q ∙ ap (λ (x : Row). x .queueable) (l .is) ∙ ap (λ (k : ℕ). rowOf (part (2048 + start) k b) .queueable) m
+    q ∙ ap (λ (x : Row). mayQueue x (size - 1)) (l .is) ∙ ap (λ (k : ℕ). mayQueue (rowOf (part (2048 + start) k b)) (size - 1)) m
 
 -- the commands before place i may be queued; `first` is the next one's first argument, and `start` where that starts
 pub record Naming (w : List ℕ) (b : Bytes) (count first start i : ℕ) : Type 0 where
@@ -184,6 +185,22 @@ unfolding splitBy
 front-name zero ls d h k = absurd (omega arith)
 front-name (suc n) [] d h k = absurd (omega arith)
 front-name (suc n) (l ∷ ls) d h k = refl
+
+-- and how many arguments stand behind it
+cut-count : (n : ℕ) (ls : List ℕ) (d : Bytes) → n ≤ length ls → length (take n (splitBy ls d)) ≡ n
+unfolding splitBy
+cut-count zero ls d h = refl
+cut-count (suc n) [] d h = absurd (omega arith)
+cut-count (suc n) (l ∷ ls) d h = ap suc (cut-count n ls (drop l d) (omega arith))
+
+one-less : (n : ℕ) → n ≡ suc n - 1
+one-less n = omega arith
+
+front-count : (n : ℕ) (ls : List ℕ) (d : Bytes) → n ≤ length ls → length (arguments (take n (splitBy ls d))) ≡ n - 1
+unfolding splitBy
+front-count zero ls d h = refl
+front-count (suc n) [] d h = absurd (omega arith)
+front-count (suc n) (l ∷ ls) d h = cut-count n ls (drop l d) (omega arith) ∙ one-less n
 
 module _ {w : List ℕ} {b : Bytes} {count : ℕ} (q : QueueIn w b count) {first start i : ℕ} (r : Naming w b count first start i) (h : i < count) where
   -- the counts that are left: the next, and those behind it
@@ -247,13 +264,20 @@ module _ {w : List ℕ} {b : Bytes} {count : ℕ} (q : QueueIn w b count) {first
   name-fits = omega (arith, room-left, ap total lengths-first)
 
   -- the name lies in its place
-  pub name-room : (132 + first < length w) × (2048 + start + getD w (132 + first) 0 ≤ length b)
-  name-room = (omega (arith, lengths-room, head-positive .0), omega (arith, name-fits, q .bytes))
+  pub name-room : {n : ℕ} → n ≡ getD w (68 + i) 0 → (132 + first < length w) × (2048 + start + getD w (132 + first) 0 ≤ length b) × (1 ≤ n)
+  name-room a = (omega (arith, lengths-room, head-positive .0), omega (arith, name-fits, q .bytes), omega (arith, a, head-positive .0))
 
   name-is : nameWord (take (getD w (68 + i) 0) (splitBy lengths (drop start (part 2048 8192 b)))) ≡ part (2048 + start) (getD w (132 + first) 0) b
   name-is =
       front-name (getD w (68 + i) 0) lengths (drop start (part 2048 8192 b)) (head-positive .0) (rw lengths-first (omega arith))
       ∙ ap (λ (l : List ℕ). take (getD l 0 0) (drop start (part 2048 8192 b))) lengths-first ∙ part-part 2048 8192 start (getD w (132 + first) 0) b name-fits
+
+  lengths-long : getD w (68 + i) 0 ≤ length lengths
+  unfolding lengths
+  lengths-long = omega (arith, total-counts, length-part (132 + first) (total (part (68 + i) (count - i) w)) w (omega (arith, r .arguments, q .words)))
+
+  count-is : length (arguments (take (getD w (68 + i) 0) (splitBy lengths (drop start (part 2048 8192 b))))) ≡ getD w (68 + i) 0 - 1
+  count-is = front-count (getD w (68 + i) 0) lengths (drop start (part 2048 8192 b)) lengths-long
 
   rest-is : drop (getD w (68 + i) 0) (splitBy lengths (drop start (part 2048 8192 b)))
       ≡ splitBy behind (drop (start + total (part (132 + first) (getD w (68 + i) 0) w)) (part 2048 8192 b))
@@ -263,23 +287,26 @@ module _ {w : List ℕ} {b : Bytes} {count : ℕ} (q : QueueIn w b count) {first
       ∙ ap (splitBy behind) (drop-drop (total (part (132 + first) (getD w (68 + i) 0) w)) start (part 2048 8192 b))
 
   naming-step : allQueueable (splitBy (part 68 count w) (splitBy (part 132 (total (part 68 count w)) w) (part 2048 8192 b)))
-      ≡ (rowOf (part (2048 + start) (getD w (132 + first) 0) b) .queueable
+      ≡ (mayQueue (rowOf (part (2048 + start) (getD w (132 + first) 0) b)) (getD w (68 + i) 0 - 1)
       and allQueueable (splitBy (part (68 + (i + 1)) (count - (i + 1)) w) (splitBy behind (drop (start + total (part (132 + first) (getD w (68 + i) 0) w)) (part 2048 8192 b)))))
-  unfolding splitBy allQueueable lengths
+  unfolding splitBy allQueueable requestQueueable lengths
   naming-step =
       r .is ∙ ap (λ (l : List ℕ). allQueueable (splitBy l (splitBy lengths (drop start (part 2048 8192 b))))) next-count
-      ∙ (λ z. rowOf (name-is z) .queueable and allQueueable (splitBy (part (68 + (i + 1)) (count - (i + 1)) w) (rest-is z)))
+      ∙ (λ z. mayQueue (rowOf (name-is z)) (count-is z) and allQueueable (splitBy (part (68 + (i + 1)) (count - (i + 1)) w) (rest-is z)))
 
   sum-small : total (part (132 + first) (getD w (68 + i) 0) w) ≤ 8192
   sum-small = omega (arith, room-left, lengths-total)
 
-  module _ {v : Bool} (e : v ≡ rowOf (part (2048 + start) (getD w (132 + first) 0) b) .queueable) where
+  module _ {n : ℕ} (a : n ≡ getD w (68 + i) 0) {v : Bool} (e : v ≡ mayQueue (rowOf (part (2048 + start) (getD w (132 + first) 0) b)) (n - 1)) where
+    told : v ≡ mayQueue (rowOf (part (2048 + start) (getD w (132 + first) 0) b)) (getD w (68 + i) 0 - 1)
+    told = e ∙ ap (λ (x : ℕ). mayQueue (rowOf (part (2048 + start) (getD w (132 + first) 0) b)) (x - 1)) a
+
     pub not-queueable : v ≡ false → false ≡ allQueueable (splitBy (part 68 count w) (splitBy (part 132 (total (part 68 count w)) w) (part 2048 8192 b)))
     unfolding _and_
     not-queueable f =
-        sym (naming-step ∙ ap (λ (x : Bool). x and allQueueable (splitBy (part (68 + (i + 1)) (count - (i + 1)) w) (splitBy behind (drop (start + total (part (132 + first) (getD w (68 + i) 0) w)) (part 2048 8192 b))))) (sym e ∙ f))
+        sym (naming-step ∙ ap (λ (x : Bool). x and allQueueable (splitBy (part (68 + (i + 1)) (count - (i + 1)) w) (splitBy behind (drop (start + total (part (132 + first) (getD w (68 + i) 0) w)) (part 2048 8192 b))))) (sym told ∙ f))
 
-    module _ {n sum : ℕ} (a : n ≡ getD w (68 + i) 0) (s : sum ≡ capped 8192 (total (part (132 + first) n w))) where
+    module _ {sum : ℕ} (s : sum ≡ capped 8192 (total (part (132 + first) n w))) where
       sum-is : sum ≡ total (part (132 + first) (getD w (68 + i) 0) w)
       sum-is = s ∙ ap (λ (x : ℕ). capped 8192 (total (part (132 + first) x w))) a ∙ capped-low 8192 _ sum-small
 
@@ -293,7 +320,7 @@ module _ {w : List ℕ} {b : Bytes} {count : ℕ} (q : QueueIn w b count) {first
             arguments = omega (arith, r .arguments, total-counts);
             room = omega (arith, room-left, lengths-total);
             named = head-positive .1;
-            is = naming-step ∙ ap (λ (x : Bool). x and allQueueable (splitBy (part (68 + (i + 1)) (count - (i + 1)) w) (splitBy behind (drop (start + total (part (132 + first) (getD w (68 + i) 0) w)) (part 2048 8192 b))))) (sym e ∙ t);
+            is = naming-step ∙ ap (λ (x : Bool). x and allQueueable (splitBy (part (68 + (i + 1)) (count - (i + 1)) w) (splitBy behind (drop (start + total (part (132 + first) (getD w (68 + i) 0) w)) (part 2048 8192 b))))) (sym told ∙ t);
           }))
 
       -- the next places fit

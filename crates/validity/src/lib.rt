@@ -5,7 +5,7 @@ ghost use Prim.Native.Nat.{_+_, _-_, _<_, _≤_};
 ghost use lib.ListN.{length, getD};
 ghost use Rattle.key.specs.Bytes.{part, total};
 ghost use Rattle.key.specs.Keys.{keyBelow};
-ghost use Rattle.server.specs.Names.{rowOf};
+ghost use Rattle.server.specs.Names.{rowOf, mayQueue};
 ghost use Rattle.server.specs.Sessions.{splitBy, ascending, allPositive, allQueueable, noneAbove, watchOk, queueOk, sessionOk, validSessions};
 ghost use Rattle.server.specs.Lent.{OneSession, KeysIn, QueueIn, queueSizesOk};
 
@@ -82,19 +82,19 @@ fn counts_positive(words: &[u64], count: usize) -> bool
     true
 }
 
-// May the command be queued whose name is argument `first` and starts at `start` of the queue's bytes?
-fn name_queueable(words: &[u64], bytes: &[u8], first: usize, start: usize) -> bool
-    requires { ⌜ (132 + first < length (now words)) × (2048 + start + getD (now words) (132 + first) 0 ≤ length (now bytes)) ⌝ }
-    ensures { λ r. ⌜ r ≡ rowOf (part (2048 + start) (getD (now (words .entry)) (132 + first) 0) (now (bytes .entry))) .queueable ⌝ }
+// May the command of `size` arguments be queued as it is? Its name is argument `first` and starts at `start` of the queue's bytes.
+fn command_queueable(words: &[u64], bytes: &[u8], first: usize, start: usize, size: usize) -> bool
+    requires { ⌜ (132 + first < length (now words)) × (2048 + start + getD (now words) (132 + first) 0 ≤ length (now bytes)) × (1 ≤ size) ⌝ }
+    ensures { λ r. ⌜ r ≡ mayQueue (rowOf (part (2048 + start) (getD (now (words .entry)) (132 + first) 0) (now (bytes .entry)))) (size - 1) ⌝ }
 {
     let from = 2048 + start;
     let to = from + sessions::word(words, 132 + first);
     let row = names::look_up(&bytes[from..to]);
-    names::queueable(row)
+    names::may_queue(row, size - 1)
 }
 
-// May all the queued commands be queued?
-fn names_queueable(words: &[u64], bytes: &[u8], count: usize) -> bool
+// May all the queued commands be queued as they are?
+fn commands_queueable(words: &[u64], bytes: &[u8], count: usize) -> bool
     requires { ⌜ QueueIn (now words) (now bytes) count ⌝ }
     ensures { λ r. ⌜ r ≡ allQueueable (splitBy (part 68 count (now (words .entry))) (splitBy (part 132 (total (part 68 count (now (words .entry)))) (now (words .entry))) (part 2048 8192 (now (bytes .entry))))) ⌝ }
 {
@@ -102,8 +102,8 @@ fn names_queueable(words: &[u64], bytes: &[u8], count: usize) -> bool
     let mut start = 0;
     let mut i = 0;
     while i < count {
-        if name_queueable(words, bytes, first, start) {
-            let size = sessions::word(words, 68 + i);
+        let size = sessions::word(words, 68 + i);
+        if command_queueable(words, bytes, first, start, size) {
             start += sessions::sum_within(words, 132 + first, size, 8192);
             first += size;
             i += 1;
@@ -151,14 +151,14 @@ fn queue_fits(words: &[u64]) -> bool
     counts_positive(words, queued)
 }
 
-// The queue of a session: within its limits, each command one of the eleven, and none outside MULTI.
+// The queue of a session: within its limits, each command as it may be queued, and none outside MULTI.
 fn queue_ok(words: &[u64], bytes: &[u8]) -> bool
     requires { ⌜ OneSession (now words) (now bytes) ⌝ }
     ensures { λ r. ⌜ r ≡ queueOk (now (words .entry)) (now (bytes .entry)) ⌝ }
 {
     if queue_fits(words) {
         let queued = sessions::word(words, 3);
-        if names_queueable(words, bytes, queued) {
+        if commands_queueable(words, bytes, queued) {
             if words[0] == 0 {
                 return queued == 0;
             }

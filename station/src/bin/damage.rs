@@ -116,7 +116,7 @@ fn row(state: &Memory, random: &mut Random) -> Option<usize> {
 }
 
 /// Every kind of state that document 01 lists under 9. A damage that cannot be done to a state answers `None`.
-const DAMAGES: [(&str, Damage); 37] = [
+const DAMAGES: [(&str, Damage); 38] = [
     ("count above its capacity", |s, r| Some(s.words[0] = s.words[3] + 1 + r.below(9) as u64)),
     ("count of any size", |s, r| Some(s.words[0] = *r.pick(&HUGE))),
     ("a version left out of the count", |s, _| Some(s.words[0] = s.words[0].checked_sub(1)?)),
@@ -173,6 +173,14 @@ const DAMAGES: [(&str, Damage); 37] = [
     ("a queued name that is none of the eleven", |s, r| {
         let at = session_with(s, r, QUEUED, 1)?;
         Some(s.session_bytes[at / SESSION_WORDS * SESSION_BYTES + WATCH_BYTES] = *r.pick(b"\x00Q!\xff"))
+    }),
+    ("a queued command of wrong argument count", |s, r| {
+        let at = session_with(s, r, QUEUED, 1)?;
+        // SET with its key and value becomes GET
+        match &mut s.session_bytes[at / SESSION_WORDS * SESSION_BYTES + WATCH_BYTES] {
+            first if *first == b'S' => Some(*first = b'G'),
+            _ => None,
+        }
     }),
     ("sessions cut short", |s, r| {
         let cut = 1 + r.below(2000);

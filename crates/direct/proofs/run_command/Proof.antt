@@ -1,5 +1,5 @@
 -- `direct::run_command` meets its contract. Assumes nothing.
-use Rattle.direct.proofs.Executing.{list-answers, list-counted, run-answers, run-counted}
+use Rattle.direct.proofs.Executing.{run-counted, list-counted, run-answers, list-answers, refusal-answers}
 use borrow.Author.Needs.{needs}
 use Rattle.direct.proofs.run_command.Statement.{statement}
 use Rattle.direct.proofs.run_command.Tie as tie
@@ -7,11 +7,8 @@ use Rattle.direct.proofs.run_command.Tie as tie
 executed-of-requires : tie.Need-executed-of-requires
 executed-of-requires c κs = search needs
 
-enum-known-command : tie.Need-enum-known-command
-enum-known-command c = search needs
-
-kind-of-requires : tie.Need-kind-of-requires
-kind-of-requires c κs = search needs
+enum-known-kind : tie.Need-enum-known-kind
+enum-known-kind c = search needs
 
 run-kind-requires : tie.Need-run-kind-requires
 run-kind-requires c κs = (search needs, (search run-counted, (search needs, (search needs, search needs))))
@@ -21,6 +18,12 @@ enum-known-listing c = search needs
 
 answer-listing-requires : tie.Need-answer-listing-requires
 answer-listing-requires c κs = (search needs, (search list-counted, (search needs, search needs)))
+
+enum-known-refusal : tie.Need-enum-known-refusal
+enum-known-refusal c = search needs
+
+answer-refusal-requires : tie.Need-answer-refusal-requires
+answer-refusal-requires c κs = search needs
 
 same-length : tie.Need-same-length
 same-length c = search needs
@@ -46,16 +49,29 @@ same-length-6 c = search needs
 returns-2 : tie.Need-returns-2
 returns-2 c = search list-answers
 
+same-length-7 : tie.Need-same-length-7
+same-length-7 c = search needs
+
+same-length-8 : tie.Need-same-length-8
+same-length-8 c = search needs
+
+same-length-9 : tie.Need-same-length-9
+same-length-9 c = search needs
+
+returns-3 : tie.Need-returns-3
+returns-3 c = search refusal-answers
+
 pub run-command-spec : {M : Type 1} → statement M
 run-command-spec =
     tie.close
     (tie.spec
     executed-of-requires
-    enum-known-command
-    kind-of-requires
+    enum-known-kind
     run-kind-requires
     enum-known-listing
     answer-listing-requires
+    enum-known-refusal
+    answer-refusal-requires
     same-length
     same-length-2
     same-length-3
@@ -63,4 +79,8 @@ run-command-spec =
     same-length-4
     same-length-5
     same-length-6
-    returns-2)
+    returns-2
+    same-length-7
+    same-length-8
+    same-length-9
+    returns-3)

@@ -10,8 +10,8 @@ queue-fits-requires c κs = search needs
 word-requires : tie.Need-word-requires
 word-requires c κs = search needs
 
-names-queueable-requires : tie.Need-names-queueable-requires
-names-queueable-requires c κs = search queue-in
+commands-queueable-requires : tie.Need-commands-queueable-requires
+commands-queueable-requires c κs = search queue-in
 
 shared-slice-read-if3 : tie.Need-shared-slice-read-if3
 shared-slice-read-if3 c = search needs
@@ -29,4 +29,4 @@ returns-4 : tie.Need-returns-4
 returns-4 c = search sizes-wrong
 
 pub queue-ok-spec : {M : Type 1} → statement M
-queue-ok-spec = tie.close (tie.spec queue-fits-requires word-requires names-queueable-requires shared-slice-read-if3 returns returns-2 returns-3 returns-4)
+queue-ok-spec = tie.close (tie.spec queue-fits-requires word-requires commands-queueable-requires shared-slice-read-if3 returns returns-2 returns-3 returns-4)

@@ -1,18 +1,26 @@
--- `command::kinds::kind_at` meets its contract. Assumes nothing.
+-- `command::kinds::kind_at` meets its contract. The row that the look-up finds is that of the name. Assumes nothing.
 use Rattle.server.proofs.PlaceLaws.{arguments-count}
-use Rattle.command.proofs.KindLaws.{kind-is}
+use Rattle.command.proofs.KindLaws.{queueable-here, queued-count, queued-plain, queued-does}
 use borrow.Author.Needs.{needs}
 use Rattle.command.proofs.kinds.kind_at.Statement.{statement}
 use Rattle.command.proofs.kinds.kind_at.Tie as tie
 
-executed-of-requires : tie.Need-executed-of-requires
-executed-of-requires c κs = search needs
+argument-requires : tie.Need-argument-requires
+argument-requires c κs = search needs
 
-kind-executed-requires : tie.Need-kind-executed-requires
-kind-executed-requires c κs = search needs
+look-up-requires : tie.Need-look-up-requires
+look-up-requires c κs = search needs
+
+operation-at-requires : tie.Need-operation-at-requires
+operation-at-requires c κs = (search needs, queueable-here _ (arguments-count 0 _ _ _) (c .before .argument .ensures) (c .look-up .ensures) (c .before .before .before .before .pre .1 .1))
+
+kind-of-requires : tie.Need-kind-of-requires
+kind-of-requires c κs = search (queued-count, queued-plain, arguments-count, needs)
 
 returns : tie.Need-returns
-returns c = search (kind-is, arguments-count)
+returns c = search (queued-does, arguments-count)
 
 pub kind-at-spec : {M : Type 1} → statement M
-kind-at-spec = tie.close (tie.spec executed-of-requires kind-executed-requires returns)
+kind-at-spec =
+    tie.close
+    (tie.spec argument-requires look-up-requires operation-at-requires kind-of-requires returns)

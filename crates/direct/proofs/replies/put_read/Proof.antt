@@ -1,6 +1,6 @@
 -- `direct::replies::put_read` meets its contract. Assumes nothing.
-use Rattle.command.proofs.KindLaws.{least-one, least-value, least-echo, least-name}
-use Rattle.direct.proofs.Answering.{read-arity, read-echo, read-live, read-nothing, read-says, read-unknown, read-value, read-values}
+use Rattle.command.proofs.KindLaws.{least-one, least-value, least-echo}
+use Rattle.direct.proofs.Answering.{read-echo, read-live, read-says, read-value, read-values}
 use borrow.Author.Needs.{needs}
 use Rattle.direct.proofs.replies.put_read.Statement.{statement}
 use Rattle.direct.proofs.replies.put_read.Tie as tie
@@ -30,7 +30,7 @@ enum-told-4 : tie.Need-enum-told-4
 enum-told-4 c = search needs
 
 argument-requires-2 : tie.Need-argument-requires-2
-argument-requires-2 c κs = (search needs, search (least-echo, least-name))
+argument-requires-2 c κs = (search needs, search least-echo)
 
 put-bulk-requires : tie.Need-put-bulk-requires
 put-bulk-requires c κs = search needs
@@ -40,30 +40,6 @@ enum-known-read c = search needs
 
 put-fixed-requires : tie.Need-put-fixed-requires
 put-fixed-requires c κs = search needs
-
-enum-told-5 : tie.Need-enum-told-5
-enum-told-5 c = search needs
-
-argument-requires-3 : tie.Need-argument-requires-3
-argument-requires-3 c κs = (search needs, search least-name)
-
-put-arity-requires : tie.Need-put-arity-requires
-put-arity-requires c κs = search needs
-
-enum-told-6 : tie.Need-enum-told-6
-enum-told-6 c = search needs
-
-argument-requires-4 : tie.Need-argument-requires-4
-argument-requires-4 c κs = (search needs, search least-name)
-
-put-unknown-requires : tie.Need-put-unknown-requires
-put-unknown-requires c κs = search needs
-
-enum-told-7 : tie.Need-enum-told-7
-enum-told-7 c = search needs
-
-put-nil-requires : tie.Need-put-nil-requires
-put-nil-requires c κs = search needs
 
 same-length : tie.Need-same-length
 same-length c = search needs
@@ -95,24 +71,6 @@ same-length-5 c = search needs
 returns-5 : tie.Need-returns-5
 returns-5 c = search read-says
 
-same-length-6 : tie.Need-same-length-6
-same-length-6 c = search needs
-
-returns-6 : tie.Need-returns-6
-returns-6 c = search read-arity
-
-same-length-7 : tie.Need-same-length-7
-same-length-7 c = search needs
-
-returns-7 : tie.Need-returns-7
-returns-7 c = search read-unknown
-
-same-length-8 : tie.Need-same-length-8
-same-length-8 c = search needs
-
-returns-8 : tie.Need-returns-8
-returns-8 c = search read-nothing
-
 pub put-read-spec : {M : Type 1} → statement M
 put-read-spec =
     tie.close
@@ -129,14 +87,6 @@ put-read-spec =
     put-bulk-requires
     enum-known-read
     put-fixed-requires
-    enum-told-5
-    argument-requires-3
-    put-arity-requires
-    enum-told-6
-    argument-requires-4
-    put-unknown-requires
-    enum-told-7
-    put-nil-requires
     same-length
     returns
     same-length-2
@@ -146,10 +96,4 @@ put-read-spec =
     same-length-4
     returns-4
     same-length-5
-    returns-5
-    same-length-6
-    returns-6
-    same-length-7
-    returns-7
-    same-length-8
-    returns-8)
+    returns-5)

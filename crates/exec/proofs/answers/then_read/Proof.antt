@@ -1,6 +1,6 @@
 -- `exec::answers::then_read` meets its contract. Assumes nothing.
-use Rattle.command.proofs.KindLaws.{least-one, least-value, least-echo, least-name}
-use Rattle.exec.proofs.AnswerLaws.{read-value, read-live, read-values, read-echo, read-says, read-arity, read-unknown, read-nothing}
+use Rattle.command.proofs.KindLaws.{least-one, least-value, least-echo}
+use Rattle.exec.proofs.AnswerLaws.{read-value, read-live, read-values, read-echo, read-says}
 use borrow.Author.Needs.{needs}
 use Rattle.exec.proofs.answers.then_read.Statement.{statement}
 use Rattle.exec.proofs.answers.then_read.Tie as tie
@@ -41,30 +41,6 @@ enum-known-read c = search needs
 then-fixed-requires : tie.Need-then-fixed-requires
 then-fixed-requires c κs = search needs
 
-enum-told-5 : tie.Need-enum-told-5
-enum-told-5 c = search needs
-
-argument-requires-3 : tie.Need-argument-requires-3
-argument-requires-3 c κs = (search needs, search least-name)
-
-then-arity-requires : tie.Need-then-arity-requires
-then-arity-requires c κs = search needs
-
-enum-told-6 : tie.Need-enum-told-6
-enum-told-6 c = search needs
-
-argument-requires-4 : tie.Need-argument-requires-4
-argument-requires-4 c κs = (search needs, search least-name)
-
-then-unknown-requires : tie.Need-then-unknown-requires
-then-unknown-requires c κs = search needs
-
-enum-told-7 : tie.Need-enum-told-7
-enum-told-7 c = search needs
-
-then-nil-requires : tie.Need-then-nil-requires
-then-nil-requires c κs = search needs
-
 same-length : tie.Need-same-length
 same-length c = search needs
 
@@ -95,24 +71,6 @@ same-length-5 c = search needs
 returns-5 : tie.Need-returns-5
 returns-5 c = search read-says
 
-same-length-6 : tie.Need-same-length-6
-same-length-6 c = search needs
-
-returns-6 : tie.Need-returns-6
-returns-6 c = search read-arity
-
-same-length-7 : tie.Need-same-length-7
-same-length-7 c = search needs
-
-returns-7 : tie.Need-returns-7
-returns-7 c = search read-unknown
-
-same-length-8 : tie.Need-same-length-8
-same-length-8 c = search needs
-
-returns-8 : tie.Need-returns-8
-returns-8 c = search read-nothing
-
 pub then-read-spec : {M : Type 1} → statement M
 then-read-spec =
     tie.close
@@ -129,14 +87,6 @@ then-read-spec =
     then-bulk-requires
     enum-known-read
     then-fixed-requires
-    enum-told-5
-    argument-requires-3
-    then-arity-requires
-    enum-told-6
-    argument-requires-4
-    then-unknown-requires
-    enum-told-7
-    then-nil-requires
     same-length
     returns
     same-length-2
@@ -146,10 +96,4 @@ then-read-spec =
     same-length-4
     returns-4
     same-length-5
-    returns-5
-    same-length-6
-    returns-6
-    same-length-7
-    returns-7
-    same-length-8
-    returns-8)
+    returns-5)

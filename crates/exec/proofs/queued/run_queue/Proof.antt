@@ -1,5 +1,5 @@
 -- `exec::queued::run_queue` meets its contract. Assumes nothing.
-use Rattle.exec.proofs.WalkLaws.{Walking, walking-none, count-least, places-in, few-places, lent-parts, rows-room, text-room, walking-more, word-in, walked-all, walking-length}
+use Rattle.exec.proofs.WalkLaws.{Walking, walking-none, count-least, may-queue, places-in, few-places, lent-parts, rows-room, text-room, walking-more, word-in, walked-all, walking-length}
 use lib.ListN.{take}
 use native.Mathlib.Omega.{arith}
 use Prim.Native.Nat.{_-_}
@@ -50,7 +50,7 @@ part-run-queued-end : tie.Need-part-run-queued-end Inv-loop μ-loop
 part-run-queued-end c = places-in (c .before .before .loop .inv) (c .before .before .before .before .before .before .before .before .before .before .before .before .before .before .before .pre .0) (c .before .before .before .before .before .before .before .word .ensures) (c .before .loop-test .taken) (c .word2 .ensures)
 
 run-queued-requires : tie.Need-run-queued-requires Inv-loop μ-loop
-run-queued-requires c κs = (search needs, (search needs, (lent-parts (c .before .before .before .before .before .before .loop .inv) (c .before .before .before .before .before .before .before .before .before .before .before .before .before .before .before .before .before .before .before .pre .0) (c .before .before .before .before .before .before .before .before .before .before .before .word .ensures) (c .before .before .before .before .before .loop-test .taken) (c .before .before .before .before .word2 .ensures), (count-least (c .before .before .before .before .before .before .loop .inv) (c .before .before .before .before .before .before .before .before .before .before .before .before .before .before .before .before .before .before .before .pre .0) (c .before .before .before .before .before .before .before .before .before .before .before .word .ensures) (c .before .before .before .before .before .loop-test .taken) (c .before .before .before .before .word2 .ensures), (rows-room (c .before .before .before .before .before .before .loop .inv) (c .before .before .before .before .before .before .before .before .before .before .before .before .before .before .before .before .before .before .before .pre .0) (c .before .before .before .before .before .before .before .before .before .before .before .word .ensures) (c .before .before .before .before .before .loop-test .taken) (c .before .before .before .before .word2 .ensures) (c .before .before .before .before .before .before .before .before .before .before .before .before .before .before .before .before .before .before .before .pre .1 .1 .0), text-room (c .before .before .before .before .before .before .loop .inv) (c .before .before .before .before .before .before .before .before .before .before .before .before .before .before .before .before .before .before .before .pre .0) (c .before .before .before .before .before .before .before .before .before .before .before .word .ensures) (c .before .before .before .before .before .loop-test .taken) (c .before .before .before .before .word2 .ensures))))))
+run-queued-requires c κs = (search needs, (search needs, (lent-parts (c .before .before .before .before .before .before .loop .inv) (c .before .before .before .before .before .before .before .before .before .before .before .before .before .before .before .before .before .before .before .pre .0) (c .before .before .before .before .before .before .before .before .before .before .before .word .ensures) (c .before .before .before .before .before .loop-test .taken) (c .before .before .before .before .word2 .ensures), (count-least (c .before .before .before .before .before .before .loop .inv) (c .before .before .before .before .before .before .before .before .before .before .before .before .before .before .before .before .before .before .before .pre .0) (c .before .before .before .before .before .before .before .before .before .before .before .word .ensures) (c .before .before .before .before .before .loop-test .taken) (c .before .before .before .before .word2 .ensures), (may-queue (c .before .before .before .before .before .before .loop .inv) (c .before .before .before .before .before .before .before .before .before .before .before .before .before .before .before .before .before .before .before .pre .0) (c .before .before .before .before .before .before .before .before .before .before .before .word .ensures) (c .before .before .before .before .before .loop-test .taken) (c .before .before .before .before .word2 .ensures), (rows-room (c .before .before .before .before .before .before .loop .inv) (c .before .before .before .before .before .before .before .before .before .before .before .before .before .before .before .before .before .before .before .pre .0) (c .before .before .before .before .before .before .before .before .before .before .before .word .ensures) (c .before .before .before .before .before .loop-test .taken) (c .before .before .before .before .word2 .ensures) (c .before .before .before .before .before .before .before .before .before .before .before .before .before .before .before .before .before .before .before .pre .1 .1 .0), text-room (c .before .before .before .before .before .before .loop .inv) (c .before .before .before .before .before .before .before .before .before .before .before .before .before .before .before .before .before .before .before .pre .0) (c .before .before .before .before .before .before .before .before .before .before .before .word .ensures) (c .before .before .before .before .before .loop-test .taken) (c .before .before .before .before .word2 .ensures)))))))
 
 add-first : tie.Need-add-first Inv-loop μ-loop
 add-first c = omega (arith, few-places (c .before .before .before .before .before .before .before .before .before .before .before .before .before .loop .inv) (c .before .before .before .before .before .before .before .before .before .before .before .before .before .before .before .before .before .before .before .before .before .before .before .before .before .before .pre .0) (c .before .before .before .before .before .before .before .before .before .before .before .before .before .before .before .before .before .before .word .ensures) (c .before .before .before .before .before .before .before .before .before .before .before .before .loop-test .taken) (c .before .before .before .before .before .before .before .before .before .before .before .word2 .ensures))

@@ -9,7 +9,7 @@ slice-read-seq : tie.Need-slice-read-seq
 slice-read-seq c = search needs
 
 lay-out-requires : tie.Need-lay-out-requires
-lay-out-requires c κs = search needs
+lay-out-requires c κs = (search needs, (search needs, (search needs, (search needs, search needs))))
 
 run-queue-requires : tie.Need-run-queue-requires
 run-queue-requires c κs = (c .before .before .before .before .before .before .before .before .before .before .before .lay-out .ensures .queued, (c .before .before .before .before .before .before .before .before .before .before .before .before .before .before .before .before .before .before .before .before .before .before .before .before .pre .0 .valid, (c .before .before .before .before .before .before .before .before .before .before .before .before .before .before .before .before .before .before .before .before .before .before .before .before .pre .1 .1 .0, c .before .before .before .before .before .before .before .before .before .before .before .lay-out .ensures .room)))

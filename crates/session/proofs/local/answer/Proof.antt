@@ -20,8 +20,8 @@ watch-keys-requires c κs = (search needs, (search needs, (search needs, (search
 enum-told-2 : tie.Need-enum-told-2
 enum-told-2 c = search needs
 
-queue-command-requires : tie.Need-queue-command-requires
-queue-command-requires c κs = (search needs, (search needs, (search queue-inside, search needs)))
+queue-up-requires : tie.Need-queue-up-requires
+queue-up-requires c κs = (search needs, (search needs, (search needs, (search needs, (search queue-inside, search needs)))))
 
 enum-told-3 : tie.Need-enum-told-3
 enum-told-3 c = search needs
@@ -80,7 +80,7 @@ answer-spec =
     enum-told
     watch-keys-requires
     enum-told-2
-    queue-command-requires
+    queue-up-requires
     enum-told-3
     not-queueable-requires
     same-length

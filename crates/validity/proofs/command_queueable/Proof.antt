@@ -1,8 +1,8 @@
--- `validity::name_queueable` meets its contract. The row that the look-up finds is the name's. Assumes nothing.
+-- `validity::command_queueable` meets its contract. The row that the look-up finds is the name's. Assumes nothing.
 use borrow.Author.Needs.{needs}
 use Rattle.validity.proofs.Validity.{name-found}
-use Rattle.validity.proofs.name_queueable.Statement.{statement}
-use Rattle.validity.proofs.name_queueable.Tie as tie
+use Rattle.validity.proofs.command_queueable.Statement.{statement}
+use Rattle.validity.proofs.command_queueable.Tie as tie
 
 add-from : tie.Need-add-from
 add-from c = search needs
@@ -28,11 +28,14 @@ part-look-up-end c = search needs
 look-up-requires : tie.Need-look-up-requires
 look-up-requires c κs = search needs
 
-queueable-requires : tie.Need-queueable-requires
-queueable-requires c κs = search needs
+sub-may-queue : tie.Need-sub-may-queue
+sub-may-queue c = search needs
+
+may-queue-requires : tie.Need-may-queue-requires
+may-queue-requires c κs = search needs
 
 returns : tie.Need-returns
 returns c = search name-found
 
-pub name-queueable-spec : {M : Type 1} → statement M
-name-queueable-spec = tie.close (tie.spec add-from add-word word-requires add-to sub-look-up part-look-up-start part-look-up-end look-up-requires queueable-requires returns)
+pub command-queueable-spec : {M : Type 1} → statement M
+command-queueable-spec = tie.close (tie.spec add-from add-word word-requires add-to sub-look-up part-look-up-start part-look-up-end look-up-requires sub-may-queue may-queue-requires returns)

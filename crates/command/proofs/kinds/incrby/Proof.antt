@@ -1,8 +1,8 @@
--- `command::incrby` meets its contract. Assumes nothing.
-use Rattle.command.proofs.NameLaws.{no-amount, amount-here}
+-- `command::kinds::incrby` meets its contract. Assumes nothing.
+use Rattle.command.proofs.KindLaws.{no-amount, amount-here}
 use borrow.Author.Needs.{needs}
-use Rattle.command.proofs.incrby.Statement.{statement}
-use Rattle.command.proofs.incrby.Tie as tie
+use Rattle.command.proofs.kinds.incrby.Statement.{statement}
+use Rattle.command.proofs.kinds.incrby.Tie as tie
 
 argument-requires : tie.Need-argument-requires
 argument-requires c κs = search needs
