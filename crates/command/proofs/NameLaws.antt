@@ -12,7 +12,7 @@ use Rattle.server.specs.declared.Name.the-variants.{Queueable, Dbsize, Keys, Sc
 use Rattle.server.specs.declared.Fixed.the-variants.{SetOptions}
 use Rattle.server.specs.Names.{Args, Row, rows, rowOf, nameWord, arguments, arity, countRight, withOptions, operationOf}
 use Rattle.server.specs.Command.{KEYS, runs, lists, fixed, unknownCommand, setOptions, commandAs, argument, executedAs, executedOf}
-use Rattle.server.specs.Errors.{fixedReply, arityOf}
+use Rattle.server.specs.Errors.{fixedReply}
 use Rattle.server.proofs.ErrorTexts.{arity-as-sent}
 use Rattle.names.specs.Rows.{rowAt, Looked}
 use Rattle.command.specs.declared.Kind.{Kind}

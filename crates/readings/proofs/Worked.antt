@@ -4,7 +4,7 @@ use Prim.Native.String.{String}
 use mathlib.Core.List.{List, [], _∷_, _++_, map}
 use mathlib.Core.Bool.{Bool, false, not}
 use lib.Dec.{T, eqb}
-use lib.ListN.{length, replicate}
+use lib.ListN.{length, getD, replicate}
 use Rattle.key.specs.Bytes.{Bytes, bytes, sameBytes, concat}
 use Rattle.server.specs.Sessions.{sessionOk}
 use Rattle.calls.specs.Calls.{Lent, open-call, request-call, Call, request, grouped}
@@ -97,8 +97,12 @@ unfoldable watched : List Bool
 watched =
     -- a key watched again keeps its first sequence
     execAfter (line 0 "WATCH a" ∷ line 1 "SET a 1" ∷ line 0 "WATCH a" ∷ line 0 "MULTI" ∷ []) "*-1\r\n"
-    -- a key watched later counts from then; EXEC reads the table as it stands
+    -- a key watched later counts from then; EXEC reads it in the table as it stands
     ∷ execAfter (line 0 "WATCH a" ∷ line 1 "SET b 1" ∷ line 0 "WATCH b" ∷ line 0 "MULTI" ∷ line 0 "GET b" ∷ []) "*1\r\n$1\r\n1\r\n"
+    -- so does one of a key that is not watched
+    ∷ execAfter (line 0 "WATCH a" ∷ line 1 "SET b 1" ∷ line 0 "MULTI" ∷ line 0 "GET b" ∷ []) "*1\r\n$1\r\n1\r\n"
+    -- the sequence is the last at the WATCH, whatever the key
+    ∷ eqb (getD (after (line 1 "SET b 1" ∷ line 0 "WATCH a" ∷ []) opened .sessionWords) 36 0) 1
     -- a dropped watch is none
     ∷ execAfter (line 0 "WATCH a" ∷ line 1 "SET a 1" ∷ line 0 "UNWATCH" ∷ line 0 "WATCH a" ∷ line 0 "MULTI" ∷ []) "*0\r\n"
     -- so is one whose reply does not fit

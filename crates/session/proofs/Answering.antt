@@ -16,7 +16,7 @@ use Rattle.server.specs.Finish.{Served, silent, finishBy, finish, Says, Session
 use Rattle.server.specs.Held.{Held, Left, cleared, opened, unwatched}
 use Rattle.sessions.proofs.Kept.{words-kept, bytes-kept, bytes-cleared, bytes-marked, bytes-opened, bytes-unwatched}
 use Rattle.answer.specs.Answers.{refusal, putAnswer}
-use Rattle.session.specs.Answers.{changing, same, Answered, Steered, Unchanged}
+use Rattle.session.specs.Answers.{changing, same, Answered, Steered, Marks, Unchanged}
 use Rattle.answer.proofs.Finish.{Cleared, replied, finish-wrote, finish-full, says-wrote, full-cleared, says-number}
 
 -- two ways to say what is done
@@ -90,8 +90,16 @@ module _ {used k : ℕ} {w w′ out out′ : Bytes} {put : Put} (r : Reply) (z :
   pub unwatch-wrote : Left unwatched w w′ → Steered (changing r unwatched) w w′ used out (record { number = 0; used = used; reply = k }) out′
   unwatch-wrote = changed-wrote unwatched r z p (λ b h. bytes-unwatched h) e
 
-  pub mark-wrote : Left marked w w′ → Steered (changing r marked) w w′ used out (record { number = 0; used = used; reply = k }) out′
-  mark-wrote = changed-wrote marked r z p (λ b h. bytes-marked h) e
+-- AN ERROR THAT MARKS
+module _ {used : ℕ} {put : Put} {w : List ℕ} where
+  pub marks-wrote : {w′ : List ℕ} {k : ℕ} → put ≡ Wrote k → Left marked w w′ → Marks put used w w′ (record { number = 0; used = used; reply = k })
+  marks-wrote e l = record { steered = λ x out out′ z p. changed-wrote marked x z p (λ b h. bytes-marked h) e l }
+
+  pub marks-full : {a : Answer} → put ≡ Full → a ≡ refusal 3 → Marks put used w w a
+  marks-full e a-is = record { steered = λ x out out′ z p. changed-full marked x z p e a-is }
+
+  pub error-marks : (x : Reply) {w′ : List ℕ} {out out′ : Bytes} {a : Answer} → Cleared out → Puts (encode x) out put out′ → Marks put used w w′ a → Steered (changing x marked) w w′ used out a out′
+  error-marks x {out = out} {out′ = out′} z p m = m .steered x out out′ z p
 
 -- A REPLY ALONE
 pub only-replied : {used : ℕ} {out out′ : Bytes} {put : Put} {a : Answer} (r : Reply) → Cleared out → Puts (encode r) out put out′ → a ≡ putAnswer put used → Unchanged (changing r same) used out a out′

@@ -12,7 +12,7 @@ use Rattle.resp.specs.Reply.{Reply, encode}
 use Rattle.memtable.specs.Versions.{Store}
 use Rattle.server.specs.declared.Answer.{Answer}
 use Rattle.server.specs.declared.Fixed.the-variants.{Queued, SetOptions}
-use Rattle.server.specs.Names.{Args, Row, rowOf, arguments, countRight, withOptions, operationOf, arity}
+use Rattle.server.specs.Names.{Args, rowOf, arguments, countRight, withOptions, operationOf, arity}
 use Rattle.names.specs.Rows.{rowAt, Looked}
 use Rattle.server.specs.Command.{setOptions}
 use Rattle.server.specs.Session.{Session, Done, says, returns, queueFits, queuedReply, marked, enqueue, queueUp}

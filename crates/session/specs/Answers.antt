@@ -2,12 +2,14 @@
 use Prim.Native.Nat.{ℕ}
 use mathlib.Core.Path.{_≡_}
 use mathlib.Core.List.{List}
-use lib.ListN.{length}
+use lib.ListN.{length, replicate}
 use Rattle.key.specs.Bytes.{Bytes}
 use Rattle.memtable.specs.Versions.{Store}
 use Rattle.server.specs.declared.Answer.{Answer}
-use Rattle.resp.specs.Reply.{Reply}
-use Rattle.server.specs.Session.{Session, Done, says}
+use Rattle.writing.specs.declared.Put.{Put}
+use Rattle.writing.specs.Puts.{Puts}
+use Rattle.resp.specs.Reply.{Reply, encode}
+use Rattle.server.specs.Session.{Session, Done, says, marked}
 use Rattle.server.specs.Sessions.{sessionFrom}
 use Rattle.server.specs.Finish.{finish, Says, SessionLeft}
 use Rattle.server.specs.Held.{Held}
@@ -37,6 +39,10 @@ pub record AnsweredWith (last : ℕ) (done : Store → Session → Done) (w w′
 -- for a function that is lent the words alone: whatever the session's bytes are, they stay
 pub record Steered (done : Store → Session → Done) (w w′ : List ℕ) (used : ℕ) (out : Bytes) (r : Answer) (out′ : Bytes) : Type 0 where
   pub is : (b : Bytes) → Held w b → Answered done w w′ b b used out r out′
+
+-- an error that was put, whichever it is, marks the session
+pub record Marks (put : Put) (used : ℕ) (w w′ : List ℕ) (r : Answer) : Type 0 where
+  pub steered : (x : Reply) (out out′ : Bytes) → out ≡ replicate (length out) 0 → Puts (encode x) out put out′ → Steered (changing x marked) w w′ used out r out′
 
 -- for a function that is lent no session: whatever its words and bytes are, they stay
 pub record Unchanged (done : Store → Session → Done) (used : ℕ) (out : Bytes) (r : Answer) (out′ : Bytes) : Type 0 where

@@ -10,7 +10,7 @@ ghost use Rattle.server.specs.declared.Fixed.the-variants as fixed;
 ghost use Rattle.server.specs.Session.{marked, notQueueable};
 ghost use Rattle.server.specs.Errors.{fixedReply, arityOf};
 ghost use Rattle.server.specs.Held.{cleared, opened, unwatched};
-ghost use Rattle.session.specs.Answers.{changing, Steered};
+ghost use Rattle.session.specs.Answers.{changing, Steered, Marks};
 ghost use Rattle.session.specs.Routes.{stepDone, Steerable};
 
 // MULTI outside MULTI: an empty queue, and no mark.
@@ -67,58 +67,50 @@ fn clear(words: &mut [u64], out: &mut [u8], used: usize) -> Answer
     }
 }
 
-// Inside MULTI, a name that may not be queued: the error marks the session failed.
+// The answer of an error that was put: it marks the session failed.
+fn mark_put(words: &mut [u64], put: Put, used: usize) -> Answer
+    requires { ⌜ length (now words) ≡ 644 ⌝ }
+    ensures { λ r. ⌜ Marks put used (now (words .entry)) (now (words .exit)) r ⌝ }
+{
+    let Put::Wrote(n) = put else {
+        return answer::refusal(3);
+    };
+    changes::mark_failed(words);
+    Answer {
+        number: 0,
+        used: used,
+        reply: n,
+    }
+}
+
+// Inside MULTI, a name that may not be queued.
 pub fn not_queueable(words: &mut [u64], word: &[u8], out: &mut [u8], used: usize) -> Answer
     requires { ⌜ length (now words) ≡ 644 ⌝ }
     requires { ⌜ now out ≡ replicate (length (now out)) 0 ⌝ }
     ensures { λ r. ⌜ Steered (changing (notQueueable (now (word .entry))) marked) (now (words .entry)) (now (words .exit)) used (now (out .entry)) r (now (out .exit)) ⌝ }
 {
     let put = errors::put_not_queueable(out, word);
-    let Put::Wrote(len) = put else {
-        return answer::refusal(3);
-    };
-    changes::mark_failed(words);
-    Answer {
-        number: 0,
-        used: used,
-        reply: len,
-    }
+    mark_put(words, put, used)
 }
 
-// Inside MULTI, a wrong argument count of the command `word`: the error marks the session failed.
+// Inside MULTI, a wrong argument count of the command `word`.
 pub fn refuse_count(words: &mut [u64], word: &[u8], out: &mut [u8], used: usize) -> Answer
-    requires { ⌜ length (now words) ≡ 645 ⌝ }
+    requires { ⌜ length (now words) ≡ 644 ⌝ }
     requires { ⌜ now out ≡ replicate (length (now out)) 0 ⌝ }
     ensures { λ r. ⌜ Steered (changing (arityOf (now (word .entry))) marked) (now (words .entry)) (now (words .exit)) used (now (out .entry)) r (now (out .exit)) ⌝ }
 {
     let put = errors::put_arity(out, word);
-    let Put::Wrote(len) = put else {
-        return answer::refusal(3);
-    };
-    changes::mark_failed(words);
-    Answer {
-        number: 0,
-        used: used,
-        reply: len,
-    }
+    mark_put(words, put, used)
 }
 
-// Inside MULTI, SET with options: the error marks the session failed.
+// Inside MULTI, SET with options.
 pub fn refuse_options(words: &mut [u64], out: &mut [u8], used: usize) -> Answer
-    requires { ⌜ length (now words) ≡ 645 ⌝ }
+    requires { ⌜ length (now words) ≡ 644 ⌝ }
     requires { ⌜ now out ≡ replicate (length (now out)) 0 ⌝ }
     ensures { λ r. ⌜ Steered (changing (fixedReply fixed.SetOptions) marked) (now (words .entry)) (now (words .exit)) used (now (out .entry)) r (now (out .exit)) ⌝ }
 {
     let put = errors::put_fixed(out, Fixed::SetOptions);
-    let Put::Wrote(len) = put else {
-        return answer::refusal(3);
-    };
-    changes::mark_failed(words);
-    Answer {
-        number: 0,
-        used: used,
-        reply: len,
-    }
+    mark_put(words, put, used)
 }
 
 // A request that steers the session.
