@@ -22,10 +22,10 @@ use Rattle.resp.specs.Reply.{Reply}
 use Rattle.memtable.specs.Table.{Value, Entry, Reader, Write, Table, keysOf, find, overlay, over, writeAll}
 use Rattle.memtable.proofs.TableLaws.{Ascending, find-writeAll, ascending-writeAll, writeAll-append}
 use Rattle.batch.specs.Group.{anyKey, among}
-use Rattle.server.specs.Command.{Command, GET, SET, DEL, EXISTS, MGET, MSET, COUNT, FIXED, tombstone, put, held, summed, raised, run}
-use Rattle.calls.specs.Posting.{Item, alone, listed, exec, member, postQueue, postReplies, post, postAll, AllHold}
+use Rattle.server.specs.Command.{Command, GET, SET, DEL, EXISTS, MGET, MSET, COUNT, FIXED, Executed, runs, lists, tombstone, put, held, summed, raised, run}
+use Rattle.calls.specs.Posting.{Item, alone, listed, exec, member, posted, postQueue, postReplies, post, postAll, AllHold}
 use Rattle.calls.specs.Verdicts.{setKeys}
-use Rattle.calls.specs.Demand3.{itemsOf, isInteger, orZero, increment, sumQueue, sum, NotSet, OnlyCounted, textOf, CounterClaim, increments, SumOf, CounterReplies}
+use Rattle.calls.specs.Demand3.{itemsOf, isInteger, orZero, increment, incrementBy, sumQueue, sum, NotSet, OnlyCounted, textOf, CounterClaim, increments, SumOf, CounterReplies}
 use Rattle.calls.proofs.Posting.{claim}
 
 -- writes to other keys leave a key as it is
@@ -104,13 +104,23 @@ module _ (k : Key) where
   command-sum (COUNT j by) t n s c e = count-sum j by t n s c
   command-sum (FIXED p) t n s c e = other-keys [] t n s c refl
 
-  queue-sum : (q : List Command) (t : Table) (n : Option ℤ) → Ascending t → NotSet k q → Counts k t n → Counts k (writeAll (postQueue t q) t) (sumQueue k q t n)
+  posted-sum : (x : Executed) (t : Table) (n : Option ℤ) → Ascending t → Counts k t n → NotSet k (x ∷ []) → Counts k (writeAll (posted t x .1) t) (incrementBy k x (posted t x .0) n)
+  unfolding posted incrementBy
+  posted-sum (runs c) t n s h e = command-sum c t n s h (e .0)
+  posted-sum (lists l) t n s h e = other-keys [] t n s h (unfold anyKey in refl)
+
+  first-set : (x : Executed) (q : List Executed) → NotSet k (x ∷ q) → NotSet k (x ∷ []) × NotSet k q
+  first-set (runs c) q e = ((e .0, tt), e .1)
+  first-set (lists l) q e = (tt, e)
+
+  queue-sum : (q : List Executed) (t : Table) (n : Option ℤ) → Ascending t → NotSet k q → Counts k t n → Counts k (writeAll (postQueue t q) t) (sumQueue k q t n)
   unfolding postQueue sumQueue writeAll
   queue-sum [] t n s e c = c
   queue-sum (x ∷ q) t n s e c =
-      let ws = run (find t) x .1 in
+      let ws = posted t x .1 in
+      let f = first-set x q e in
       rw (writeAll-append ws (postQueue (writeAll ws t) q) t)
-      (queue-sum q (writeAll ws t) (increment k x (run (find t) x .0) n) (ascending-writeAll ws t s) (e .1) (command-sum x t n s c (e .0)))
+      (queue-sum q (writeAll ws t) (incrementBy k x (posted t x .0) n) (ascending-writeAll ws t s) (f .1) (posted-sum x t n s c (f .0)))
 
   ascending-post : (x : Item) (t : Table) → Ascending t → Ascending (post x t)
   unfolding post
@@ -120,7 +130,7 @@ module _ (k : Key) where
   ascending-post (member ws) t s = ascending-writeAll ws t s
 
   history-sum : (xs : List Item) (t : Table) (n : Option ℤ) → Ascending t → OnlyCounted k xs → Counts k t n → Counts k (postAll xs t) (sum k xs t n)
-  unfolding sum sumQueue postAll post
+  unfolding sum sumQueue posted incrementBy postAll post
   history-sum [] t n s e c = c
   history-sum (alone x b ∷ xs) t n s e c =
       history-sum xs (post (alone x b) t) (increment k x (run (find t) x .0) n) (ascending-post (alone x b) t s) (e .1) (command-sum x t n s c (e .0))
@@ -140,19 +150,19 @@ counters cs l o k e =
 -- THE REPLIES THEMSELVES give that sum.
 module _ (k : Key) where
   -- one reply for each command, and their sum
-  record Counted (q : List Command) (ps : List Reply) (t : Table) (n : Option ℤ) : Type 0 where
+  record Counted (q : List Executed) (ps : List Reply) (t : Table) (n : Option ℤ) : Type 0 where
     each : length ps ≡ length q
     sums : increments k q ps n ≡ sumQueue k q t n
 
-  queue-counts : (q : List Command) (t : Table) (n : Option ℤ) → Counted q (postReplies t q) t n
+  queue-counts : (q : List Executed) (t : Table) (n : Option ℤ) → Counted q (postReplies t q) t n
   unfolding increments sumQueue postReplies
   queue-counts [] t n = record { each = refl; sums = refl }
   queue-counts (c ∷ q) t n =
-      let rest = queue-counts q (writeAll (run (find t) c .1) t) (increment k c (run (find t) c .0) n) in
+      let rest = queue-counts q (writeAll (posted t c .1) t) (incrementBy k c (posted t c .0) n) in
       record { each = ap suc (rest .each); sums = rest .sums }
 
   replies-sum : (xs : List Item) (t : Table) (n : Option ℤ) → AllHold xs t → SumOf k xs n (sum k xs t n)
-  unfolding sum sumQueue post
+  unfolding sum sumQueue posted incrementBy post
   replies-sum [] t n h = refl
   replies-sum (alone c b ∷ xs) t n h = (run (find t) c .0, h .0, replies-sum xs (post (alone c b) t) (increment k c (run (find t) c .0) n) (h .1))
   replies-sum (listed l b ∷ xs) t n h = replies-sum xs t n (h .1)

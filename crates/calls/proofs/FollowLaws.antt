@@ -18,10 +18,11 @@ use Rattle.batch.specs.declared.Verdict.the-variants.{Accepted, Conflict, NoRoo
 use Rattle.batch.specs.Group.{plain, anyKey, among, verdictAlone}
 use Rattle.batch.proofs.KeyLists.{among-append, any-last-all, among-last}
 use Rattle.server.specs.Names.{Args, Row, rowOf, nameWord, arguments, countRight, withOptions, operationOf, arity, Control, MULTI, EXEC, DISCARD, WATCH, UNWATCH, QUIT, other, controlOf}
-use Rattle.server.specs.Command.{Command, Listing, Executed, runs, lists, Effect, setOptions, executedOf, commandOf, run, runQueue}
+use Rattle.server.specs.Command.{Listing, Executed, runs, lists, Effect, setOptions, executedOf, commandOf, run, runQueue}
 use Rattle.server.specs.Session.{Watching, watchedKeys, Session, clear, Result, number, reply, Done, says, returns, committed, direct, addKeys, watchFits, watching, outsideMulti, queueFits, queuedReply, marked, enqueue, queueUp, notQueueable, execAbort, execute, insideMulti, respondBy, respond}
+use Rattle.server.specs.Sessions.{allQueueable}
 use Rattle.server.proofs.WatchLaws.{among-adds}
-use Rattle.server.proofs.SessionLaws.{SessionSound, ranBy, writesBy, ends, execute-failed, execute-ends}
+use Rattle.server.proofs.SessionLaws.{QueueHolds, SessionSound, ranBy, writesBy, ends, execute-failed, execute-ends}
 use Rattle.calls.specs.Posting.{isReply, Item, listed, exec, Client, closed, Turn, quietly, onlyIf, turnExec, turnBy, postQueue, post, postAll, AllHold}
 use Rattle.calls.specs.Verdicts.{itemKeys, writtenIn}
 use Rattle.calls.proofs.MovedLaws.{commit-moves, commit-keeps, no-keys, one-item, unwritten}
@@ -150,35 +151,35 @@ module _ (st : Store) (s : Session) (d : Client) (sound : Sound st) (good : Sess
       go false c = unfold arity in rw (error-not-queued _) (still st (marked s) d (record { queue = m .queue; watched = m .watched }))
 
   -- an accepted EXEC
-  queue-key : (b : Bytes) (k : Key) (ws : List Write) (t : Table) (cs : List Command) → ws ≡ postQueue t cs → among (itemKeys (exec cs b) t) k ≡ true → among (keysOf ws) k ≡ true
+  queue-key : (b : Bytes) (k : Key) (ws : List Write) (t : Table) (xs : List Executed) → ws ≡ postQueue t xs → among (itemKeys (exec xs b) t) k ≡ true → among (keysOf ws) k ≡ true
   unfolding itemKeys
-  queue-key b k ws t cs e h = rw e h
+  queue-key b k ws t xs e h = rw e h
 
-  queue-other : (b : Bytes) (k : Key) (ws : List Write) (t : Table) (cs : List Command) → ws ≡ postQueue t cs → among (itemKeys (exec cs b) t) k ≡ false → among (keysOf ws) k ≡ false
+  queue-other : (b : Bytes) (k : Key) (ws : List Write) (t : Table) (xs : List Executed) → ws ≡ postQueue t xs → among (itemKeys (exec xs b) t) k ≡ false → among (keysOf ws) k ≡ false
   unfolding itemKeys
-  queue-other b k ws t cs e h = rw e h
+  queue-other b k ws t xs e h = rw e h
 
-  exec-follows : (q : List Args) → Follows st (commit (writesBy q st) st) clear (turnExec q (encode (array (ranBy q st .replies))) d)
+  exec-follows : (q : List Args) → allQueueable q ≡ true → Follows st (commit (writesBy q st) st) clear (turnExec q (encode (array (ranBy q st .replies))) d)
   unfolding turnExec ranBy writesBy postAll post
-  exec-follows q =
+  exec-follows q queueable =
       let r = readAt (st .last) (st .versions) in
-      let cs = map commandOf q in
+      let xs = map executedOf q in
       let t = table (st .versions) in
-      let ws = runQueue r cs .writes in
+      let ws = runQueue r (map commandOf q) .writes in
       let up = ascending-table (st .versions) in
-      let same : ws ≡ postQueue t cs = queue-writes cs r t up (read-now st sound) in
-      rw (array-told (runQueue r cs .replies)) (record {
+      let same : ws ≡ postQueue t xs = queue-writes q r t queueable up (read-now st sound) in
+      rw (array-told (runQueue r (map commandOf q) .replies)) (record {
         tables = rw (← same) (sym (writeAll-lastWrites ws t up)) ∙ sym (table-commit (lastWrites [] ws) st (sound .seqs));
         client = closed-clear;
-        holds = (ap (λ (ps : List Reply). encode (array ps)) (queue-replies cs r t up (read-now st sound)), tt);
+        holds = (ap (λ (ps : List Reply). encode (array ps)) (queue-replies q r t queueable up (read-now st sound)), tt);
         quiet = λ z. some-item z;
-        moves = λ k h. one-item _ t k h (λ x. commit-moves (lastWrites [] ws) st k (among-last ws [] k (rw (queue-key _ k ws t cs same x))));
-        keeps = λ k h. commit-keeps (lastWrites [] ws) st k (any-last-all (λ j. sameKey j k) ws ∙ queue-other _ k ws t cs same (unwritten _ [] t k h .0));
+        moves = λ k h. one-item _ t k h (λ x. commit-moves (lastWrites [] ws) st k (among-last ws [] k (rw (queue-key _ k ws t xs same x))));
+        keeps = λ k h. commit-keeps (lastWrites [] ws) st k (any-last-all (λ j. sameKey j k) ws ∙ queue-other _ k ws t xs same (unwritten _ [] t k h .0));
       })
 
-  execute-follows : (q : List Args) (a : Args) → FollowedBy st d EXEC (some q) a (execute q st s) (execute q st s .result)
+  execute-follows : (q : List Args) (a : Args) → allQueueable q ≡ true → FollowedBy st d EXEC (some q) a (execute q st s) (execute q st s .result)
   unfolding turnBy
-  execute-follows q a = go (s .failed) refl
+  execute-follows q a queueable = go (s .failed) refl
     where
       nil : Follows st st clear (turnExec q (encode NilArray) d)
       nil = unfold turnExec in rw (nil-array-no-array, nil-array-told) (still st clear closed closed-clear)
@@ -191,7 +192,7 @@ module _ (st : Store) (s : Session) (d : Client) (sound : Sound st) (good : Sess
           last false = still st clear closed closed-clear
 
       by : (v : Verdict) → FollowedBy st d EXEC (some q) a (ends v (ranBy q st) (writesBy q st) st s) (ends v (ranBy q st) (writesBy q st) st s .result)
-      by Accepted = unfold ends in exec-follows q
+      by Accepted = unfold ends in exec-follows q queueable
       by Conflict = unfold ends in nil
       by NoRoom = unfold ends in tt
       by NoSequence = unfold ends in tt
@@ -201,9 +202,9 @@ module _ (st : Store) (s : Session) (d : Client) (sound : Sound st) (good : Sess
       go true p = rw (execute-failed q st s p) abort
       go false p = rw (execute-ends q st s p) (by _)
 
-  inside-follows : (a : Args) (q : List Args) (c : Control) (r : Row) → d .queue ≡ some q → FollowedBy st d c (some q) a (insideMulti c q r a st s) (insideMulti c q r a st s .result)
+  inside-follows : (a : Args) (q : List Args) (c : Control) (r : Row) → allQueueable q ≡ true → FollowedBy st d c (some q) a (insideMulti c q r a st s) (insideMulti c q r a st s .result)
   unfolding insideMulti turnBy
-  inside-follows a q EXEC r e = execute-follows q a
+  inside-follows a q EXEC r e = execute-follows q a e
   inside-follows a q DISCARD r e = is-ok clear closed closed-clear
   inside-follows a q MULTI r e = not-ok _ s _ m
   inside-follows a q WATCH r e = not-ok _ s _ m
@@ -223,4 +224,4 @@ module _ (st : Store) (s : Session) (d : Client) (sound : Sound st) (good : Sess
       go : (q : Option (List Args)) → s .queue ≡ q
           → FollowedBy st d (controlOf (rowOf (nameWord a) .name)) q a (respondBy q (rowOf (nameWord a)) a st s) (respondBy q (rowOf (nameWord a)) a st s .result)
       go none e = outside-follows a (controlOf (rowOf (nameWord a) .name)) (rowOf (nameWord a))
-      go (some q) e = inside-follows a q (controlOf (rowOf (nameWord a) .name)) (rowOf (nameWord a)) (m .queue ∙ e)
+      go (some q) e = inside-follows a q (controlOf (rowOf (nameWord a) .name)) (rowOf (nameWord a)) (subst QueueHolds e (good .queue) .names)

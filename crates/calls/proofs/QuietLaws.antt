@@ -11,7 +11,7 @@ use Rattle.key.specs.Bytes.{Bytes}
 use Rattle.resp.specs.Request.{readRequest}
 use Rattle.resp.specs.Reply.{NilArray}
 use Rattle.server.specs.Names.{Args, Control, MULTI, EXEC, DISCARD, WATCH, UNWATCH, QUIT, other, controlOf, rowOf, nameWord}
-use Rattle.server.specs.Command.{commandOf}
+use Rattle.server.specs.Command.{executedOf}
 use Rattle.server.specs.Session.{execAbort}
 use Rattle.calls.specs.Serve.{Outcome}
 use Rattle.calls.specs.Calls.{Call, request, grouped}
@@ -24,7 +24,7 @@ module _ (b : Bytes) (d : Client) where
   unfolding turnExec
   exec-quiet q n = go (isArray b) refl
     where
-      go : (t : Bool) → isArray b ≡ t → cond {A = Turn} t (record { client = closed; items = exec (map commandOf q) b ∷ [] }) (onlyIf (isReply NilArray b || isReply execAbort b) d closed) .items ≡ []
+      go : (t : Bool) → isArray b ≡ t → cond {A = Turn} t (record { client = closed; items = exec (map executedOf q) b ∷ [] }) (onlyIf (isReply NilArray b || isReply execAbort b) d closed) .items ≡ []
       go true e = absurd (n e)
       go false e = refl
 

@@ -20,10 +20,10 @@ use Rattle.batch.specs.declared.Verdict.the-variants.{Accepted, Conflict, NoRoo
 use Rattle.batch.specs.Group.{conflicts, hasRoom, hasSequences, judge, verdictAlone}
 use Rattle.batch.proofs.KeyLists.{any-same, any-alike}
 use Rattle.server.specs.Names.{Args, rowOf, nameWord, Control, controlOf}
-use Rattle.server.specs.Command.{commandOf}
+use Rattle.server.specs.Sessions.{allQueueable}
 use Rattle.server.specs.Session.{Watching, watchedKeys, Session, Result, number, reply, Done, anyMoved, verdictExec, execute, insideMulti, respondBy, respond}
 use Rattle.server.proofs.WatchLaws.{movedBy, any-moved}
-use Rattle.server.proofs.SessionLaws.{SessionSound, Refuses, Kept, respond-kept, ranBy, writesBy, ends, execute-failed, execute-ends}
+use Rattle.server.proofs.SessionLaws.{QueueHolds, SessionSound, Refuses, Kept, respond-kept, ranBy, writesBy, ends, execute-failed, execute-ends}
 use Rattle.server.specs.Finish.{Served, silent, fitted, finishBy, finish}
 use Rattle.calls.specs.Serve.{serveReading, serve, Outcome, answered}
 use Rattle.calls.specs.Calls.{Lent, valid, storeOf, sessionOf, Called, request-call, Call, request, grouped, call, outcomes}
@@ -59,29 +59,29 @@ module _ (st : Store) (s : Session) (sound : Sound st) (good : SessionSound (st 
       ∙ any-alike (movedBy (st .versions) (s .watch)) stale (watchedKeys (s .watch)) (λ k. sym (tells k))
       ∙ any-same stale (watchedKeys (s .watch)) (d .watched) (λ k. sym (m .watched k))
 
-  ends-due : (q : List Args) → DueHere false q (ends (verdictExec (writesBy q st) st (s .watch)) (ranBy q st) (writesBy q st) st s .result)
+  ends-due : (q : List Args) → allQueueable q ≡ true → DueHere false q (ends (verdictExec (writesBy q st) st (s .watch)) (ranBy q st) (writesBy q st) st s .result)
   unfolding verdictExec verdictAlone judge conflicts
-  ends-due q = rw same-conflict (go (conflicted stale d) (hasRoom st (writesBy q st)) (hasSequences st (writesBy q st)))
+  ends-due q queueable = rw same-conflict (go (conflicted stale d) (hasRoom st (writesBy q st)) (hasSequences st (writesBy q st)))
     where
       go : (c h n : Bool) → Due false c (table (st .versions)) q (ends (cond c Conflict (cond h (cond n Accepted NoSequence) NoRoom)) (ranBy q st) (writesBy q st) st s .result)
       go true h n = unfold ends execReply in refl
-      go false true true = unfold ends execReply ranBy in ap array (queue-replies (map commandOf q) _ (table (st .versions)) (ascending-table (st .versions)) (read-now st sound))
+      go false true true = unfold ends execReply ranBy in ap array (queue-replies q _ (table (st .versions)) queueable (ascending-table (st .versions)) (read-now st sound))
       go false true false = unfold ends in refl
       go false false n = unfold ends in refl
 
-  execute-due : (q : List Args) → DueHere (s .failed) q (execute q st s .result)
-  execute-due q = go (s .failed) refl
+  execute-due : (q : List Args) → allQueueable q ≡ true → DueHere (s .failed) q (execute q st s .result)
+  execute-due q queueable = go (s .failed) refl
     where
       go : (f : Bool) → s .failed ≡ f → DueHere f q (execute q st s .result)
       go true p = rw (execute-failed q st s p) (unfold execReply in refl)
-      go false p = rw (execute-ends q st s p) (ends-due q)
+      go false p = rw (execute-ends q st s p) (ends-due q queueable)
 
   respond-due : (a : Args) (q : List Args) → isExec (controlOf (rowOf (nameWord a) .name)) ≡ true → s .queue ≡ some q → DueHere (s .failed) q (respond a st s .result)
   unfolding respond
   respond-due a q e o =
       subst (λ (x : Option (List Args)). DueHere (s .failed) q (respondBy x (rowOf (nameWord a)) a st s .result)) (sym o)
       (unfold respondBy in
-      subst (λ (c : Control). DueHere (s .failed) q (insideMulti c q (rowOf (nameWord a)) a st s .result)) (sym (is-exec _ e)) (unfold insideMulti in execute-due q))
+      subst (λ (c : Control). DueHere (s .failed) q (insideMulti c q (rowOf (nameWord a)) a st s .result)) (sym (is-exec _ e)) (unfold insideMulti in execute-due q (subst QueueHolds o (good .queue) .names)))
 
   -- and with it the answer
   abbrev PostedHere : List Args → Served → Type 0

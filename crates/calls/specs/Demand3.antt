@@ -17,11 +17,11 @@ use Rattle.memtable.specs.Versions.{table, moved}
 use Rattle.memtable.specs.Layout.{emptyStore}
 use Rattle.batch.specs.Group.{among}
 use Rattle.server.specs.Names.{Args, Control, MULTI, EXEC, DISCARD, WATCH, UNWATCH, QUIT, other, controlOf, rowOf, nameWord}
-use Rattle.server.specs.Command.{Command, GET, SET, DEL, EXISTS, MGET, MSET, COUNT, FIXED, run}
+use Rattle.server.specs.Command.{Command, GET, SET, DEL, EXISTS, MGET, MSET, COUNT, FIXED, Executed, runs, lists}
 use Rattle.server.specs.Session.{clear}
 use Rattle.calls.specs.Serve.{Outcome}
 use Rattle.calls.specs.Calls.{Lent, valid, storeOf, sessionOf, Call, request, grouped, call, outcomes, final, request-call}
-use Rattle.calls.specs.Posting.{Asked, nothing, broken, asks, askedBy, isArray, Item, alone, listed, exec, member, Client, closed, enter, history, closedClients, post, postAll, AllHold}
+use Rattle.calls.specs.Posting.{Asked, nothing, broken, asks, askedBy, isArray, Item, alone, listed, exec, member, Client, closed, enter, history, closedClients, posted, post, postAll, AllHold}
 use Rattle.calls.specs.Verdicts.{setKeys, asksExec, staleIn, newTransaction, VerdictsPosted}
 
 -- an empty store just opened, and clear sessions, in valid lent state
@@ -79,23 +79,29 @@ increment k (MSET es) p n = n
 increment k (COUNT j by) p n = cond (sameKey j k && isInteger p) (some (orZero n +ℤ by)) n
 increment k (FIXED r) p n = n
 
+-- a listing raises nothing
+unfoldable pub incrementBy : Key → Executed → Reply → Option ℤ → Option ℤ
+incrementBy k (runs c) p n = increment k c p n
+incrementBy k (lists l) p n = n
+
 -- the sum after commands posted one after another
-unfoldable pub sumQueue : Key → List Command → Table → Option ℤ → Option ℤ
+unfoldable pub sumQueue : Key → List Executed → Table → Option ℤ → Option ℤ
 sumQueue k [] t n = n
-sumQueue k (c ∷ cs) t n = let e = run (find t) c in sumQueue k cs (writeAll (e .1) t) (increment k c (e .0) n)
+sumQueue k (x ∷ xs) t n = let e = posted t x in sumQueue k xs (writeAll (e .1) t) (incrementBy k x (e .0) n)
 
 -- the sum over a history
 unfoldable pub sum : Key → List Item → Table → Option ℤ → Option ℤ
 sum k [] t n = n
-sum k (alone c b ∷ xs) t n = sum k xs (post (alone c b) t) (sumQueue k (c ∷ []) t n)
+sum k (alone c b ∷ xs) t n = sum k xs (post (alone c b) t) (sumQueue k (runs c ∷ []) t n)
 sum k (listed l b ∷ xs) t n = sum k xs t n
 sum k (exec q b ∷ xs) t n = sum k xs (post (exec q b) t) (sumQueue k q t n)
 sum k (member ws ∷ xs) t n = sum k xs (post (member ws) t) n
 
 -- no command of a queue but a counter writes the key
-abbrev pub NotSet : Key → List Command → Type 0
+abbrev pub NotSet : Key → List Executed → Type 0
 NotSet k [] = Unit {0}
-NotSet k (c ∷ cs) = (among (setKeys c) k ≡ false) × NotSet k cs
+NotSet k (runs c ∷ xs) = (among (setKeys c) k ≡ false) × NotSet k xs
+NotSet k (lists l ∷ xs) = NotSet k xs
 
 -- only counter commands write the key
 abbrev pub OnlyCounted : Key → List Item → Type 0
@@ -117,10 +123,10 @@ CounterClaim =
     find (table (storeOf (final cs l) .versions)) k ≡ textOf (sum k (itemsOf cs l) [] none)
 
 -- the sum after commands and their replies
-unfoldable pub increments : Key → List Command → List Reply → Option ℤ → Option ℤ
+unfoldable pub increments : Key → List Executed → List Reply → Option ℤ → Option ℤ
 increments k [] ps n = n
-increments k (c ∷ cs) [] n = n
-increments k (c ∷ cs) (p ∷ ps) n = increments k cs ps (increment k c p n)
+increments k (x ∷ xs) [] n = n
+increments k (x ∷ xs) (p ∷ ps) n = increments k xs ps (incrementBy k x p n)
 
 -- `m` is the sum after a history by the bytes of its replies, an EXEC's one for each command
 abbrev pub SumOf : Key → List Item → Option ℤ → Option ℤ → Type 0

@@ -15,7 +15,7 @@ use Rattle.memtable.specs.Table.{Write, Table, find, writeAll}
 use Rattle.batch.specs.Group.{Pending}
 use Rattle.batch.specs.Members.{pendingOf}
 use Rattle.server.specs.Names.{Args, rowOf, nameWord, arguments, Control, MULTI, EXEC, DISCARD, WATCH, UNWATCH, QUIT, other, controlOf}
-use Rattle.server.specs.Command.{Command, Listing, Executed, runs, lists, executedOf, commandOf, run, answerListing}
+use Rattle.server.specs.Command.{Command, Listing, Executed, runs, lists, Effect, executedOf, run, answerListing}
 use Rattle.server.specs.Session.{queuedReply, execAbort}
 use Rattle.calls.specs.Serve.{Outcome}
 use Rattle.calls.specs.Calls.{Call, request, grouped}
@@ -51,7 +51,7 @@ isArray b = beginsArray b && not (isReply NilArray b)
 pub data Item : Type 0 where
   alone : Command → Bytes → Item
   listed : Listing → Bytes → Item
-  exec : List Command → Bytes → Item
+  exec : List Executed → Bytes → Item
   member : List Write → Item
 
 -- For each session a queue, at first closed, and the keys named in a WATCH answered `+OK` and not dropped since.
@@ -84,7 +84,7 @@ itemAlone (lists l) b = listed l b
 -- an open queue: EXEC answered by an array posts it; `*-1` or `EXECABORT` only close it
 unfoldable pub turnExec : List Args → Bytes → Client → Turn
 turnExec q b d =
-    cond (isArray b) (record { client = closed; items = exec (map commandOf q) b ∷ [] })
+    cond (isArray b) (record { client = closed; items = exec (map executedOf q) b ∷ [] })
     (onlyIf (isReply NilArray b || isReply execAbort b) d closed)
 
 -- a request that did not return a number, by its name and the client's queue
@@ -139,15 +139,20 @@ history (c ∷ cs) (o ∷ os) ds = let e = enter c o ds in e .items ++ history c
 unfoldable pub closedClients : List Client
 closedClients = replicate 16 closed
 
--- THE POSTING, on one table. The writes and the table after commands posted one after another
-unfoldable pub postQueue : Table → List Command → List Write
+-- THE POSTING, on one table. Reply and writes of a posted command
+unfoldable pub posted : Table → Executed → Effect
+posted t (runs c) = run (find t) c
+posted t (lists l) = (answerListing t l, [])
+
+-- the writes of commands posted one after another
+unfoldable pub postQueue : Table → List Executed → List Write
 postQueue t [] = []
-postQueue t (c ∷ cs) = let ws = run (find t) c .1 in ws ++ postQueue (writeAll ws t) cs
+postQueue t (x ∷ xs) = let ws = posted t x .1 in ws ++ postQueue (writeAll ws t) xs
 
 -- the reply to each of them
-unfoldable pub postReplies : Table → List Command → List Reply
+unfoldable pub postReplies : Table → List Executed → List Reply
 postReplies t [] = []
-postReplies t (c ∷ cs) = let e = run (find t) c in e .0 ∷ postReplies (writeAll (e .1) t) cs
+postReplies t (x ∷ xs) = let e = posted t x in e .0 ∷ postReplies (writeAll (e .1) t) xs
 
 -- the table after an item
 unfoldable pub post : Item → Table → Table

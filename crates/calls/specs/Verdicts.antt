@@ -14,7 +14,7 @@ use Rattle.resp.specs.Reply.{Reply, NilArray, array, encode}
 use Rattle.memtable.specs.Table.{Value, Entry, Table, keysOf, find}
 use Rattle.batch.specs.Group.{anyKey, among}
 use Rattle.server.specs.Names.{Args, Control, MULTI, EXEC, DISCARD, WATCH, UNWATCH, QUIT, other, controlOf, rowOf, nameWord}
-use Rattle.server.specs.Command.{Command, GET, SET, DEL, EXISTS, MGET, MSET, COUNT, FIXED, commandOf, run}
+use Rattle.server.specs.Command.{Command, GET, SET, DEL, EXISTS, MGET, MSET, COUNT, FIXED, executedOf, run}
 use Rattle.server.specs.Session.{queuedReply, execAbort}
 use Rattle.calls.specs.Serve.{Outcome}
 use Rattle.calls.specs.Calls.{Call, request, grouped}
@@ -129,7 +129,7 @@ conflicted stale d = anyKey stale (d .watched)
 unfoldable pub execReply : Bool → Bool → Table → List Args → Reply
 execReply true conflict t q = execAbort
 execReply false true t q = NilArray
-execReply false false t q = array (postReplies t (map commandOf q))
+execReply false false t q = array (postReplies t (map executedOf q))
 
 -- number and reply of an EXEC: without a number this reply; a mark or a conflict comes before 6 and 7
 pub record ExecPosted (marked conflict : Bool) (t : Table) (q : List Args) (n : ℕ) (b : Bytes) : Type 0 where

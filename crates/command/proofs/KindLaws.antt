@@ -6,7 +6,7 @@ use mathlib.Core.Path.{_≡_, refl, sym, ap, _∙_, subst}
 use mathlib.Core.Bool.{Bool, true, false, cond, not, _&&_, _||_, false≢true}
 use mathlib.Core.List.{List, [], _∷_, map}
 use mathlib.Core.Option.{some}
-use borrow.Author.Tests.{leb-true, eqb-true, eq-eqb, ne-eqb}
+use borrow.Author.Tests.{leb-true, ltb-false, eqb-true, eq-eqb, ne-eqb}
 use lib.Dec.{leb, eqb}
 use lib.IntN.{ℤ, pos, negsuc}
 use lib.Signed.{mag}
@@ -28,7 +28,7 @@ use Rattle.server.specs.declared.Name.{Name}
 use Rattle.server.specs.declared.Name.the-variants.{Queueable}
 use Rattle.server.specs.declared.Fixed.the-variants.{NotInteger, Pong}
 use Rattle.server.specs.Names.{Args, Row, rows, unknownRow, rowOf, nameWord, arguments, countRight, withOptions, operationOf, mayQueue, requestQueueable, notAbove}
-use Rattle.server.specs.Command.{argument, countBy, pairsOf, queuedOperation, commandAs, held, raised, run}
+use Rattle.server.specs.Command.{argument, countBy, pairsOf, requestOperation, commandAs, held, raised, run}
 use Rattle.server.specs.Errors.{fixedReply}
 use Rattle.names.specs.Rows.{rowAt, Looked}
 use Rattle.command.specs.declared.Read.{Read}
@@ -147,15 +147,12 @@ module _ (o : Operation) (count : ℕ) (right : countRight (rowAt (rowPlace (Que
     get-does e = kind-same o a count e (record { effect = λ r. ap (λ (k : Bytes). (bulkOr (r k), [])) (behind 0 a); counted = least-as e })
 
     pub set-does : withOptions o (count - 1) ≡ false → length a ≡ count → o ≡ Set → KindIs o a count Pairs
-    unfolding withOptions KindCounted
+    unfolding rowAt rows rowPlace withOptions KindCounted
     set-does w l e =
-        let two : count - 1 ≡ 2 = eqb-true (count - 1) 2 (off (eqb (count - 1) 2) (sym (ap (λ (x : Operation). withOptions x (count - 1)) e) ∙ w)) in
+        let most : count - 1 ≤ 2 = ltb-false 2 (count - 1) (sym (ap (λ (x : Operation). withOptions x (count - 1)) e) ∙ w) in
+        let least : 3 ≤ count = least-as e in
         let three : count ≡ 3 = omega arith in
-        kind-same o a count e (record { effect = λ r. plain-set a r (l ∙ three); counted = record { least = omega arith; pairs = omega arith } })
-      where
-        off : (b : Bool) → not b ≡ false → b ≡ true
-        off true h = refl
-        off false h = sym h
+        kind-same o a count e (record { effect = λ r. plain-set a r (l ∙ three); counted = record { least = least; pairs = omega arith } })
 
     pub del-does : o ≡ Del → KindIs o a count Tombstones
     unfolding rowAt rows rowPlace commandAs run kindEffect tombstonesEffect liveReply KindCounted
@@ -227,9 +224,9 @@ module _ (a : Args) {count k : ℕ} (l : length a ≡ count) {w : Bytes} (w-is :
         ap (λ (x : Name). withOptions (operationOf x) (count - 1)) (sym o-is)
         ∙ off _ (both-parts (rowAt k .queueable && countRight (rowAt k) (count - 1)) (not (withOptions (operationOf (rowAt k .name)) (count - 1))) may-here .1)
 
-    pub queued-does : {x : Kind} → KindIs o a count x → KindIs (queuedOperation a) a count x
+    pub queued-does : {x : Kind} → KindIs o a count x → KindIs (requestOperation a) a count x
     queued-does {x} h =
-        kind-same (queuedOperation a) a count
+        kind-same (requestOperation a) a count
         (ap (λ (r : Row). operationOf (r .name)) (sym (looked .is ∙ ap rowOf (w-is ∙ name-first a))) ∙ ap operationOf o-is) h
 
 -- THE ARGUMENT COUNT of each kind

@@ -62,7 +62,7 @@ module _ (name : Name) (count : ℕ) (right : countRight (rowAt (rowPlace name))
 
     pub other-means : {x : Name} → name ≡ x → ((word : Bytes) (b : Args) → executedAs x word b ≡ fixed (unknownCommand word)) → MeansAs name a count (Refused refusal.Unknown)
     unfolding executedMeant refusalReply Counted
-    other-means e h = means-same name a count e (record { is = h (nameWord a) (arguments a); counted = some-count })
+    other-means e h = means-same name a count e (record { is = h (nameWord a) (arguments a); counted = tt })
 
 -- one of the eleven
 module _ (name : Name) (count : ℕ) {o : Operation} (e : name ≡ Queueable o) (plain : withOptions (operationOf name) (count - 1) ≡ false) where
@@ -110,7 +110,7 @@ options-said Unwatch word a e = absurd (false≢true e)
 options-said Quit word a e = absurd (false≢true e)
 options-said Unknown word a e = absurd (false≢true e)
 
-module _ (a : Args) {count k : ℕ} (l : length a ≡ count) (some-count : 1 ≤ count) {w : Bytes} (w-is : w ≡ argument 0 a) (looked : Looked w k) {b : Bool}
+module _ (a : Args) {count k : ℕ} (l : length a ≡ count) {w : Bytes} (w-is : w ≡ argument 0 a) (looked : Looked w k) {b : Bool}
     (b-is : b ≡ countRight (rowAt k) (count - 1)) where
   row-here : rowOf (nameWord a) ≡ rowAt k
   row-here = sym (looked .is ∙ ap rowOf (w-is ∙ name-first a))
@@ -134,7 +134,7 @@ module _ (a : Args) {count k : ℕ} (l : length a ≡ count) (some-count : 1 ≤
   unfolding executedMeant refusalReply fixedReply Counted
   with-options e o-is t = record {
     is = request-as e ∙ options-said (rowAt k .name) (nameWord a) (arguments a) (ap (withOptions (operationOf (rowAt k .name))) counted-here ∙ sym o-is ∙ t);
-    counted = some-count;
+    counted = tt;
   }
 
   pub wrong-count : b ≡ false → ExecutedIs a count (Refused refusal.Arity)
@@ -142,5 +142,5 @@ module _ (a : Args) {count k : ℕ} (l : length a ≡ count) (some-count : 1 ≤
   wrong-count e = record {
     is = request-as e ∙ ap (λ (r : Row). fixed (arity r)) (sym row-here)
         ∙ ap fixed (arity-as-sent (nameWord a) (count - 1) (ap (λ (r : Row). countRight r (count - 1)) row-here ∙ sym b-is ∙ e));
-    counted = some-count;
+    counted = tt;
   }

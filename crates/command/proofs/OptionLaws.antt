@@ -130,7 +130,7 @@ module _ {a : Args} {count from i pattern most : ℕ} (s : Scanning a count from
 
     pub scanning-wrong : {f : Fixed} → r ≡ Wrong f → ScanIs a count from (Refused (Says f))
     unfolding scanStep executedMeant refusalReply Counted
-    scanning-wrong e = record { is = stepped e; counted = omega (arith, s .within) }
+    scanning-wrong e = record { is = stepped e; counted = tt }
 
   pub scanning-odd : length a ≡ count → count - i ≤ 1 → i < count → ScanIs a count from (Refused (Says Syntax))
   unfolding scanOptions fixedReply executedMeant refusalReply Counted
@@ -140,7 +140,7 @@ module _ {a : Args} {count from i pattern most : ℕ} (s : Scanning a count from
       record {
         is = s .is
             ∙ ap (scanOptions from (patternAt pattern a) most) (drop-cons a i [] here ∙ ap (λ (b : Args). argument i a ∷ b) (drop-of-length-le a {i = suc i} last));
-        counted = omega arith;
+        counted = tt;
       }
 
   pub scanning-all : length a ≡ count → count ≤ i → ScanIs a count from (Lists (listing.Scan from pattern most))
@@ -163,7 +163,7 @@ module _ (a : Args) {count : ℕ} (least : 2 ≤ count) {x : Bytes} (x-is : x �
 
   pub no-cursor : o ≡ Missing → MeansAs Scan a count (Refused (Says InvalidCursor))
   unfolding amountIn fixedReply executedMeant refusalReply Counted
-  no-cursor e = record { is = cursor-is {w = none} (ap amountIn (sym e)); counted = omega arith }
+  no-cursor e = record { is = cursor-is {w = none} (ap amountIn (sym e)); counted = tt }
 
   pub cursor-here : {from : ℕ} → o ≡ Is from → {r : CodeExecuted} → ScanIs a count from r → MeansAs Scan a count r
   unfolding amountIn
@@ -207,7 +207,7 @@ module _ (a : Args) {count : ℕ} (l : length a ≡ count) where
 
   pub odd-rest : 3 ≤ count → (count ≡ 3 → ⊥) → (count ≡ 5 → ⊥) → MeansAs Range a count (Refused (Says Syntax))
   unfolding Counted
-  odd-rest h j k = record { is = range-odd a (omega (arith, l)) (λ e. j (sym l ∙ e)) (λ e. k (sym l ∙ e)); counted = omega arith }
+  odd-rest h j k = record { is = range-odd a (omega (arith, l)) (λ e. j (sym l ∙ e)) (λ e. k (sym l ∙ e)); counted = tt }
 
   module _ (five : count ≡ 5) {x : Bytes} (x-is : x ≡ argument 3 a) {b : Bool} (b-is : b ≡ sameName x (bytes "LIMIT")) where
     five-as : {c : Bool} → b ≡ c
@@ -219,7 +219,7 @@ module _ (a : Args) {count : ℕ} (l : length a ≡ count) where
 
     pub other-option : b ≡ false → MeansAs Range a count (Refused (Says Syntax))
     unfolding executedMeant refusalReply fixedReply Counted
-    other-option e = record { is = five-as e; counted = omega arith }
+    other-option e = record { is = five-as e; counted = tt }
 
     module _ (yes : b ≡ true) {v : Bytes} (v-is : v ≡ argument 4 a) {n : Number} (n-is : n ≡ intArg v) (o : Amount) (o-is : amountIn o ≡ natural n) where
       limit-as : {w : Option ℕ} → w ≡ amountIn o → executedAs Range (nameWord a) (arguments a) ≡ rangeLimit (argument 1 a) (argument 2 a) w
@@ -229,7 +229,7 @@ module _ (a : Args) {count : ℕ} (l : length a ≡ count) where
 
       pub bad-limit : o ≡ Missing → MeansAs Range a count (Refused (Says BadLimit))
       unfolding amountIn executedMeant refusalReply fixedReply Counted
-      bad-limit e = record { is = limit-as {w = none} (ap amountIn (sym e)); counted = omega arith }
+      bad-limit e = record { is = limit-as {w = none} (ap amountIn (sym e)); counted = tt }
 
       pub limit-here : {most : ℕ} → o ≡ Is most → MeansAs Range a count (Lists (listing.RangeUpTo most))
       unfolding amountIn executedMeant listingMeant Counted ListingCounted

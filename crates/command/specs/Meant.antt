@@ -49,11 +49,11 @@ ListingCounted (listing.Scan from pattern most) count = pattern < count
 ListingCounted listing.Range count = 3 ≤ count
 ListingCounted (listing.RangeUpTo n) count = 3 ≤ count
 
--- the argument count, and what a command that runs does
+-- the argument count of a listing, and what a command that runs does
 unfoldable pub Counted : Name → CodeExecuted → Args → ℕ → Type 0
 Counted name (Runs k) a count = KindIs (operationOf name) a count k
 Counted name (Lists l) a count = ListingCounted l count
-Counted name (Refused f) a count = 1 ≤ count
+Counted name (Refused f) a count = Unit {0}
 
 -- the answer to a request of `count` arguments, the name counted
 pub record ExecutedIs (a : Args) (count : ℕ) (r : CodeExecuted) : Type 0 where

@@ -12,7 +12,7 @@ ghost use Prim.Native.Nat.{_-_, _≤_};
 ghost use Rattle.server.specs.declared.Operation.the-variants.{Ping, Incrby};
 ghost use Rattle.server.specs.declared.Name.the-variants.{Queueable};
 ghost use Rattle.server.specs.Names.{countRight, withOptions, requestQueueable};
-ghost use Rattle.server.specs.Command.{queuedOperation};
+ghost use Rattle.server.specs.Command.{requestOperation};
 ghost use Rattle.names.specs.Rows.{rowAt};
 ghost use Rattle.server.specs.Places.{argumentsAt, PartsIn};
 ghost use Rattle.command.specs.Kinds.{KindIs};
@@ -69,7 +69,7 @@ pub fn kind_at(data: &[u8], places: &[u64], count: usize) -> Kind
     requires { ⌜ PartsIn (now places) (now «data») count ⌝ }
     requires { ⌜ 1 ≤ count ⌝ }
     requires { ⌜ requestQueueable (argumentsAt 0 count (now places) (now «data»)) ≡ true ⌝ }
-    ensures { λ r. ⌜ KindIs (queuedOperation (argumentsAt 0 count (now (places .entry)) (now («data» .entry)))) (argumentsAt 0 count (now (places .entry)) (now («data» .entry))) count r ⌝ }
+    ensures { λ r. ⌜ KindIs (requestOperation (argumentsAt 0 count (now (places .entry)) (now («data» .entry)))) (argumentsAt 0 count (now (places .entry)) (now («data» .entry))) count r ⌝ }
 {
     let row = names::look_up(argument(data, places, count, 0));
     kind_of(names::operation_at(row), data, places, count)

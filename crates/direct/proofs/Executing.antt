@@ -7,7 +7,7 @@ use Rattle.key.specs.Bytes.{Bytes}
 use Rattle.memtable.specs.Layout.{storeIn}
 use Rattle.server.specs.declared.Answer.{Answer}
 use Rattle.server.specs.Names.{Args, rowOf, nameWord, arguments}
-use Rattle.server.specs.Command.{Command, FIXED, Effect, Executed, runs, lists, queuedOperation, commandAs, executedOf, run}
+use Rattle.server.specs.Command.{Command, FIXED, Effect, Executed, runs, lists, requestOperation, commandAs, executedOf, run}
 use Rattle.server.specs.Session.{Session, direct}
 use Rattle.server.specs.Finish.{Served, finish, Says, StoreLeft}
 use Rattle.server.specs.Places.{argumentsAt}
@@ -29,7 +29,7 @@ served-effect c w b room used s = refl
 
 -- the argument count
 module _ {a : Args} {count : ℕ} {e : CodeExecuted} (x : ExecutedIs a count e) where
-  kind-here : {k : Kind} → e ≡ executed.Runs k → KindIs (queuedOperation a) a count k
+  kind-here : {k : Kind} → e ≡ executed.Runs k → KindIs (requestOperation a) a count k
   unfolding Counted
   kind-here e-is = subst (λ (t : CodeExecuted). Counted (rowOf (nameWord a) .name) t a count) e-is (x .counted)
 
@@ -60,7 +60,7 @@ module _ (p : List ℕ) (d : Bytes) (count used : ℕ) (w b : List ℕ) {e : Cod
 
   pub run-answers : {k : Kind} → e ≡ executed.Runs k → Runs (kindEffect k (lastReader w b) (argumentsAt 0 count p d)) used out w b r out′ w′ b′ → Answers (executedOf (argumentsAt 0 count p d)) used out w b r out′ w′ b′
   unfolding executedMeant
-  run-answers e-is a = by-effect (commandAs (queuedOperation (argumentsAt 0 count p d)) (arguments (argumentsAt 0 count p d))) (meant-here x e-is) (sym (kind-here x e-is .effect (lastReader w b))) a
+  run-answers e-is a = by-effect (commandAs (requestOperation (argumentsAt 0 count p d)) (arguments (argumentsAt 0 count p d))) (meant-here x e-is) (sym (kind-here x e-is .effect (lastReader w b))) a
 
   pub list-answers : {l : CodeListing} → e ≡ executed.Lists l → Answers (lists (listingMeant l (argumentsAt 0 count p d))) used out w b r out′ w′ b′ → Answers (executedOf (argumentsAt 0 count p d)) used out w b r out′ w′ b′
   unfolding executedMeant

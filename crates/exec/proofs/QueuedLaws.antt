@@ -10,7 +10,7 @@ use Rattle.writing.specs.declared.Put.{Put}
 use Rattle.writing.specs.Puts.{Adds}
 use Rattle.resp.specs.Reply.{encode}
 use Rattle.memtable.specs.Table.{Reader, lastWrites}
-use Rattle.server.specs.Command.{Effect, queuedOperation, commandOf, run}
+use Rattle.server.specs.Command.{Effect, requestOperation, commandOf, run}
 use Rattle.server.specs.Places.{argumentsAt}
 use Rattle.own.specs.Own.{ownWrites, Own, readerOf}
 use Rattle.inside.specs.declared.Walked.{Walked}
@@ -40,7 +40,7 @@ module _ (seq : ℕ) (w : List ℕ) (b : Bytes) (p : List ℕ) (count : ℕ) (ow
     same-data = refl;
   }
 
-  module _ {k : Kind} (i : KindIs (queuedOperation (argumentsAt 0 count p (take (a .used) d))) (argumentsAt 0 count p (take (a .used) d)) count k) where
+  module _ {k : Kind} (i : KindIs (requestOperation (argumentsAt 0 count p (take (a .used) d))) (argumentsAt 0 count p (take (a .used) d)) count k) where
     effect-as : {t : Kind} (r : Reader) → k ≡ t → run r (commandOf (argumentsAt 0 count p (take (a .used) d))) ≡ kindEffect t r (argumentsAt 0 count p (take (a .used) d))
     unfolding commandOf
     effect-as r e = i .effect r ∙ ap (λ (x : Kind). kindEffect x r (argumentsAt 0 count p (take (a .used) d))) e

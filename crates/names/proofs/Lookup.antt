@@ -6,7 +6,7 @@ use Prim.Native.Nat.{ℕ, _+_, _*_, _-_, _%_, _<_, _≤_}
 use native.Mathlib.Numerals.{add-one}
 use native.Mathlib.Omega.{arith}
 use borrow.Author.Tests.{eq-eqb, ne-eqb, le-leb, lt-leb}
-use lib.Dec.{eqb, leb}
+use lib.Dec.{leb, ltb, eqb}
 use lib.ListN.{length, getD, drop, drop-of-length-le, length-map}
 use lib.Seq.{drop-cons}
 use Rattle.key.specs.Bytes.{Bytes, _and_, sameBytes, part}
@@ -114,11 +114,11 @@ module _ (k : ℕ) (h : k < 22) (n : ℕ) where
 
 -- WHETHER A COMMAND MAY BE QUEUED as it was sent
 module _ (k : ℕ) (n : ℕ) where
-  pub options-here : k < 22 → getD options k false ≡ true → not (eqb n 2) ≡ withOptions (operationOf (rowAt k .name)) n
-  options-here h e = sym (ap (λ (b : Bool). b && not (eqb n 2)) e) ∙ options-is k h n
+  pub options-here : k < 22 → getD options k false ≡ true → ltb 2 n ≡ withOptions (operationOf (rowAt k .name)) n
+  options-here h e = sym (ap (λ (b : Bool). b && ltb 2 n) e) ∙ options-is k h n
 
   pub no-options : k < 22 → getD options k false ≡ false → false ≡ withOptions (operationOf (rowAt k .name)) n
-  no-options h e = sym (ap (λ (b : Bool). b && not (eqb n 2)) e) ∙ options-is k h n
+  no-options h e = sym (ap (λ (b : Bool). b && ltb 2 n) e) ∙ options-is k h n
 
   module _ {q : Bool} (is : q ≡ rowAt k .queueable) where
     pub never-queued : q ≡ false → false ≡ mayQueue (rowAt k) n

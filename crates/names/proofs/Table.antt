@@ -1,13 +1,13 @@
 -- The tables of the code are the rows of the paper: one equation that antt computes. Assumes nothing.
 use mathlib.Core.Path.{_≡_, refl, sym, ap, _∙_}
-use mathlib.Core.Bool.{Bool, true, false, not, _&&_, false≢true}
+use mathlib.Core.Bool.{Bool, true, false, _&&_, false≢true}
 use mathlib.Core.List.{List, [], _∷_, _++_, map}
 use mathlib.Core.Option.{Option, none, some}
 use Prim.Native.Nat.{ℕ, zero, suc, _+_, _*_, _-_, _<_, _≤_}
 use native.Mathlib.Nat.{not-suc-le-zero, le-of-suc-le-suc, add-suc, add-zero, suc-add, zero-add}
 use native.Mathlib.Decide.{decLe}
 use native.Mathlib.Omega.{arith}
-use lib.Dec.{eqb}
+use lib.Dec.{ltb}
 use lib.ListN.{length, getD, take, drop, replicate, List·getD-append, List·getD-map, length-take, length-drop}
 use lib.Seq.{take-take}
 use Rattle.key.specs.Bytes.{part}
@@ -82,7 +82,7 @@ controls-right : map controlSaid controls ≡ map (λ (r : Row). controlOf (r .n
 unfolding rows
 controls-right = refl
 
-options-right : (n : ℕ) → map (λ (b : Bool). b && not (eqb n 2)) options ≡ map (λ (r : Row). withOptions (operationOf (r .name)) n) (rows ++ unknownRow ∷ [])
+options-right : (n : ℕ) → map (λ (b : Bool). b && ltb 2 n) options ≡ map (λ (r : Row). withOptions (operationOf (r .name)) n) (rows ++ unknownRow ∷ [])
 unfolding rows withOptions
 options-right n = refl
 
@@ -163,10 +163,10 @@ module _ (k : ℕ) (h : k < 22) where
       ∙ ap (λ (l : List Control). getD l k other) controls-right ∙ List·getD-map (λ (r : Row). controlOf (r .name)) (rows ++ unknownRow ∷ []) k unknownRow
       ∙ ap (λ (r : Row). controlOf (r .name)) (default-behind rows k unknownRow)
 
-  pub options-is : (n : ℕ) → (getD options k false && not (eqb n 2)) ≡ withOptions (operationOf (rowAt k .name)) n
+  pub options-is : (n : ℕ) → (getD options k false && ltb 2 n) ≡ withOptions (operationOf (rowAt k .name)) n
   unfolding rowAt withOptions
   options-is n =
-      sym (List·getD-map (λ (b : Bool). b && not (eqb n 2)) options k false)
+      sym (List·getD-map (λ (b : Bool). b && ltb 2 n) options k false)
       ∙ ap (λ (l : List Bool). getD l k false) (options-right n) ∙ List·getD-map (λ (r : Row). withOptions (operationOf (r .name)) n) (rows ++ unknownRow ∷ []) k unknownRow
       ∙ ap (λ (r : Row). withOptions (operationOf (r .name)) n) (default-behind rows k unknownRow)
 

@@ -1,4 +1,5 @@
-// The table of commands (`specs/Names.antt` of `server`): a constant for each column, its last entry for an unknown name.
+// The table of commands (`specs/Names.antt` of `server`): a constant for each column, its last entry for an unknown name. The column of names is cut
+// in two: operations first, then the others.
 use server::Name;
 use server::Operation;
 ghost use mathlib.Core.Path.{_≡_};
@@ -221,7 +222,7 @@ const QUEUEABLE: [bool; 22] = [
     false,
 ];
 
-// The names that have options in Redis.
+// The names whose further arguments are refused as options.
 const OPTIONS: [bool; 22] = [
     false,
     true,
@@ -343,7 +344,7 @@ pub fn with_options(row: usize, count: usize) -> bool
     ensures { λ r. ⌜ r ≡ withOptions (operationOf (rowAt row .name)) count ⌝ }
 {
     if OPTIONS[row] {
-        return count != 2;
+        return 2 < count;
     }
     false
 }

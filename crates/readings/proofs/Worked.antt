@@ -176,8 +176,9 @@ lentQueue args = record {
 
 unfoldable queueing : List Bool
 queueing =
-    -- a wrong argument count queues nothing and marks
+    -- a wrong argument count marks, and queues nothing: one command is queued behind it as before
     replies (answerTo (line 0 "SET a") begun) "-ERR wrong number of arguments for 'set' command\r\n"
+    ∷ eqb (getD (after (line 0 "SET a" ∷ []) begun .sessionWords) 3 0) 1
     ∷ execThen "SET a" "-EXECABORT Transaction discarded because of previous errors.\r\n"
     -- so does SET with options
     ∷ replies (answerTo (line 0 "SET a 1 EX 5") begun) "-ERR SET options (EX, NX, ...) are not supported\r\n"
@@ -188,6 +189,10 @@ queueing =
     ∷ execThen "MULTI" "*1\r\n+OK\r\n"
     -- an amount that is no number is queued
     ∷ execThen "INCRBY n x" "*2\r\n+OK\r\n-ERR value is not an integer or out of range\r\n"
+    -- an error that does not fit marks nothing
+    ∷ replies (answerTo (line 0 "EXEC") (request-call 0 (bytes "GET\r\n") 8 4 begun .lent)) "*1\r\n+OK\r\n"
+    -- nothing is queued outside MULTI
+    ∷ execAfter (line 0 "SET a" ∷ line 0 "MULTI" ∷ []) "*0\r\n"
     -- lent queues: 9, marked or not
     ∷ eqb (answerTo (line 1 "PING") (lentQueue (bytes "GET" ∷ [])) .number) 9
     ∷ not (lentOk 0 (bytes "GET" ∷ []))
@@ -195,6 +200,7 @@ queueing =
     ∷ not (lentOk 0 (bytes "SET" ∷ bytes "a" ∷ []))
     ∷ not (lentOk 0 (bytes "SET" ∷ bytes "a" ∷ bytes "1" ∷ bytes "EX" ∷ bytes "5" ∷ []))
     ∷ not (lentOk 0 (bytes "MSET" ∷ bytes "a" ∷ bytes "1" ∷ bytes "b" ∷ []))
+    ∷ not (lentOk 0 (bytes "KEYS" ∷ bytes "*" ∷ []))
     ∷ lentOk 0 (bytes "INCRBY" ∷ bytes "a" ∷ bytes "x" ∷ [])
     ∷ lentOk 0 (bytes "GET" ∷ bytes "a" ∷ [])
     ∷ []

@@ -1,5 +1,5 @@
 -- What the answers are, pinned apart from their definitions: a long reply leaves all, DEL counts the live keys, a watched key carries its first sequence, EXEC and a
--- command that are accepted say so.
+-- command that are accepted say so, a command that cannot be queued marks, a queued one is what it means outside MULTI.
 use Prim.Native.Nat.{ℕ, _+_}
 use native.Mathlib.Omega.{arith}
 use mathlib.Core.Bool.{Bool, true, false, cond, not, _&&_, false≢true}

@@ -54,7 +54,7 @@ stepDone Unwatch = changing (fixedReply Ok) unwatched
 stepDone Clear = changing (fixedReply Ok) cleared
 stepDone (Reply f) = changing (fixedReply f) same
 
--- a command of right argument count that may be queued
+-- one of the eleven, of right argument count and without options
 unfoldable pub queueing : Args → Store → Session → Done
 queueing a st s = enqueue (queueOf (s .queue)) a st s
 

@@ -1,4 +1,4 @@
-// A command inside MULTI that may be queued.
+// One of the eleven names inside MULTI.
 use crate::steer;
 use server::Answer;
 use server::Fixed;
@@ -13,7 +13,7 @@ ghost use Rattle.server.specs.Places.{argumentsAt, PartsIn};
 ghost use Rattle.session.specs.Answers.{Answered};
 ghost use Rattle.session.specs.Routes.{queueing, queueDone};
 
-// Queues a command of right argument count inside MULTI: 4 without room for it, which marks the session and comes before 3.
+// Queues a command of right argument count and without options: 4 without room for it, which marks the session and comes before 3.
 fn queue_command(
     words: &mut [u64],
     bytes: &mut [u8],
