@@ -2,11 +2,12 @@
 """Generates input for the comparisons, always the same for a seed.
 
     generate.py mixed SEED RUNS [LINES]     frames input for comparing with the Rust
-    generate.py watched SEED RUNS [LINES]   frames input with WATCH, writes and EXEC in any order, for comparing with the model
+    generate.py watched SEED RUNS [LINES]   frames input with WATCH, writes and EXEC in any order, and commands inside MULTI that are not queued
+                                            for their argument count, for comparing with the model
     generate.py numbers SEED RUNS [LINES]   frames input that also meets numbers, and INFO, for comparing with the model
     generate.py limits                      frames input that reaches each limit exactly and one beyond
     generate.py long                        frames input for programs without the limits of 4,096 bytes: lines about 65,536 bytes
-    generate.py exhaustive LENGTH           every list of LENGTH steps of two sessions over two keys (twelve kinds of step), with EXEC behind
+    generate.py exhaustive LENGTH           every list of LENGTH steps of two sessions over two keys (13 kinds of step), with EXEC behind
                                             it or else DISCARD, that is in the domain, for comparing with the Rust
     generate.py exhaustive-watched LENGTH   every such list with EXEC behind it that leaves the domain, for comparing with the model
     generate.py groups SEED RUNS            group scripts whose capacities hold all they write, for comparing with the Rust
@@ -63,7 +64,7 @@ BAD_LINES = [
 
 class Omitted(Exception):
     """What runs against the Rust leave out: INFO outside MULTI, an EXEC behind a write since its session's first WATCH in force (R-7), a command
-    that is not queued for its argument count (R-8)."""
+    inside MULTI that is not queued for its argument count (R-8)."""
 
 
 class Domain(model.Registry):
@@ -209,6 +210,13 @@ class Mixed:
         }.get(name, lambda: [self.key()] if self.chance(0.05) else [])()
         return [name] + a
 
+    def queued_command(self):
+        """A command for the queue: of right argument count, and no SET with options."""
+        while True:
+            args = self.command(self.rng.choice(NAMES))
+            if not model.queue_refusal(args[0], len(args) - 1):
+                return args
+
     def scan_arguments(self):
         cursor = self.rng.choice([b"0", b"0", b"0", b"1", b"2", b"3", b"10"]) if self.chance(0.8) else self.rng.choice(NUMBERS)
         a = [cursor]
@@ -253,7 +261,7 @@ class Mixed:
             self.multi[s] -= 1
             if self.chance(0.01):
                 return [self.letters(b"INFO")]
-            return self.command(self.rng.choice(NAMES))
+            return self.queued_command()
         if self.multi[s] == 1:
             self.multi[s] = 0
             return self.command(b"EXEC" if self.chance(0.92) and not self.stale(s) else b"DISCARD")
@@ -381,11 +389,24 @@ class Mixed:
 class Free(Mixed):
     """The same without the domain's limits."""
 
+    def __init__(self, rng, lines, **fixed):
+        chosen = {"wrong": rng.choice([0.0, 0.05, 0.2])}  # how many commands inside MULTI have a wrong count, or are SET with options
+        super().__init__(rng, lines, **(chosen | fixed))
+
     def stale(self, s):
         return False
 
     def watching(self):
         return False
+
+    def queued_command(self):
+        name = self.rng.choice(NAMES)
+        if not self.chance(self.wrong):
+            return self.command(name)
+        if self.chance(0.3):
+            return [b"SET", self.key(), self.value()] + self.rng.choice([[b"NX"], [b"EX", b"5"], [b""]])
+        wrong = [n for n in range(5) if not model.right_count(name, n)]
+        return [name] + self.several(self.key, wrong)
 
     def run(self):
         return [self.next_line() for _ in range(self.lines)]
@@ -415,7 +436,7 @@ class Watched(Free):
             self.multi[s] -= 1
             if self.chance(0.02):
                 return self.command(self.rng.choice(LISTING + CONTROL))
-            return self.command(self.rng.choice(NAMES))
+            return self.queued_command()
         if self.multi[s] == 1:
             self.multi[s] = 0
             return self.command(b"EXEC" if self.chance(0.95) else b"DISCARD")
@@ -502,6 +523,7 @@ def limit_runs():
 
     for n in (15, 16, 17, 99):
         run(f"session {n}", (n, ping), (n, b"PI"), (n, b"NG\n"), again)
+    run("lines that are no frames", *BAD_LINES, again)
     for n in (FRAME, FRAME + 1):
         run(f"frame of {n} bytes", b"00 " + b"0a" * n, again)
         run(f"frame of {n} bytes, unfinished", b"00 " + b"78" * n, (0, b"\n"), again)
@@ -552,13 +574,19 @@ def limit_runs():
         run(f"{n} queued commands, one by one", (0, multi), *[(0, ping)] * n, (0, b"SET a 1\n"), (0, do), (0, b"GET a\n"))
         run(f"{n} queued commands of a failed session", (0, multi), (0, b"FOO\n"), (0, ping * n), (0, do))
         run(f"a name that cannot be queued behind {n}", (0, multi), (0, ping * n), (0, b"FOO\n"), (0, do))
+        run(f"a wrong count behind {n} queued", (0, multi), (0, ping * n), (0, b"GET\n"), (0, ping), (0, ping), (0, do))
+        run(f"SET with options behind {n} queued", (0, multi), (0, ping * n), (0, b"set a 1 NX\n"), (0, ping), (0, ping), (0, do), (0, b"GET a\n"))
     for n in (511, 512, 513):
         run(f"{n} queued arguments in one", (0, multi), (0, inline(b"DEL", *[b"k"] * (n - 1))), (0, do), (0, b"DBSIZE\n"))
         run(f"{n} queued arguments in two", (0, multi), (0, inline(b"MGET", *[b"k"] * 399)), (0, inline(b"EXISTS", *[b"k"] * (n - 401))), (0, do))
         run(f"{n} queued arguments with PING", (0, multi), (0, inline(b"DEL", *[b"k"] * (n - 2))), (0, ping), (0, do))
+        run(f"a wrong count of {n} arguments, none queued", (0, multi), (0, inline(b"GET", *[b"k"] * (n - 1))), (0, ping), (0, do))
+        run(f"SET with {n} arguments, none queued", (0, multi), (0, inline(b"SET", *[b"k"] * (n - 1))), (0, ping), (0, do))
+        run(f"MSET of {n} arguments", (0, multi), (0, inline(b"MSET", *[b"k"] * (n - 1))), (0, ping), (0, do))
     for n in (8191, 8192, 8193):
         run(f"{n} queued bytes", (0, multi), (0, echo_to(4000)), (0, echo_to(n - 4000)), (0, do))
         run(f"{n} queued bytes in one", (0, multi), (0, echo_to(4090)), (0, echo_to(n - 4094)), (0, ping), (0, do))
+        run(f"a wrong count behind {n} queued bytes", (0, multi), (0, echo_to(4000)), (0, echo_to(n - 4000)), (0, b"ECHO\n"), (0, b"DEL\n"), (0, ping), (0, do))
         run(f"{n} queued bytes, refused once", (0, b"WATCH a\n"), (0, multi), (0, echo_to(4000)), (0, echo_to(n - 4000)), (0, ping), (1, b"SET a 1\n"), (0, do))
     run("4 and DISCARD", (0, multi), (0, ping * 65), (0, end), (0, multi), (0, ping), (0, do))
     run("4 and QUIT", (0, multi), (0, ping * 65), (0, b"QUIT\n"), (0, do), (0, multi), (0, do))
@@ -626,7 +654,7 @@ def long_runs():
 
 STEPS = [
     (0, b"WATCH a"), (0, b"WATCH b"), (0, b"MULTI"), (0, b"EXEC"), (0, b"DISCARD"), (0, b"SET a 1"), (0, b"INCR b"), (0, b"DEL a"), (0, b"MGET a b"),
-    (1, b"SET a 2"), (1, b"SET b x"), (1, b"DEL b"),
+    (0, b"SET a"), (1, b"SET a 2"), (1, b"SET b x"), (1, b"DEL b"),
 ]
 LISTS_IN_A_RUN = 100
 

@@ -2,7 +2,8 @@
 """Writes the files under samples/, always the same.
 
 mixed-N.in       generated input (fixed seeds) in the domain of runs against the Rust; mixed-N.out is the Rust's output
-watched.in       generated input (fixed seed) with WATCH, writes and EXEC in any order; watched.out is the model's output
+watched.in       generated input (fixed seed) with WATCH, writes and EXEC in any order, and commands inside MULTI that are not queued for their
+                 argument count; watched.out is the model's output
 groups.in        group scripts (fixed seed) within capacities; groups.out is the Rust's output
 group-limits.in  group scripts that meet 6, 7 and 8; group-limits.out is the model's output
 limits.in        each limit reached exactly and one beyond, in one run; limits.out is the model's output
@@ -20,6 +21,7 @@ import random
 import re
 import subprocess
 import sys
+from collections import Counter
 
 import generate
 import model
@@ -32,10 +34,10 @@ LINES = 500
 MIXED = [
     (65, {"count": 2, "odd": 0.1, "transact": 0.3, "split": 0.1}),
     (66, {"count": 3, "odd": 0.1, "transact": 0.6, "split": 0.0}),
-    (67, {"count": 4, "odd": 0.1, "transact": 0.3, "split": 0.3}),
+    (70, {"count": 4, "odd": 0.1, "transact": 0.3, "split": 0.3}),
     (68, {"count": 16, "odd": 0.1, "transact": 0.3, "split": 0.1}),
 ]
-WATCHED = (53, {"count": 4, "keys": [b"a", b"b", b"n", b"m"], "odd": 0.02, "split": 0.0, "pipeline": 0.2, "write": 0.2})
+WATCHED = (53, {"count": 4, "keys": [b"a", b"b", b"n", b"m"], "odd": 0.02, "split": 0.0, "pipeline": 0.2, "write": 0.2, "wrong": 0.05})
 WATCHED_PART = 300  # lines of it that the program frames gets
 
 
@@ -91,15 +93,41 @@ def mixed():
         must(re.search(pattern, shown), f"no sample shows {pattern}")
 
 
+class Counted(model.Registry):
+    """Counts the errors of commands that are not queued for their argument count."""
+
+    def __init__(self, store):
+        super().__init__(store)
+        self.refused = Counter()
+
+    def inside(self, session, name, args):
+        if name in model.QUEUEABLE:
+            self.refused[model.queue_refusal(name, len(args) - 1)] += 1
+        return super().inside(session, name, args)
+
+
+def refused_in(lines):
+    """How many commands inside MULTI have a wrong count, and how many are SET with options."""
+    frames = model.Frames()
+    frames.registry = Counted(frames.registry.store)
+    for line in lines:
+        frames.line(line)
+    told = frames.registry.refused
+    return told.total() - told[None] - told[model.SET_OPTIONS], told[model.SET_OPTIONS]
+
+
 def watched():
     seed, fixed = WATCHED
     lines = generate.Watched(random.Random(f"sample {seed}"), LINES, **fixed).run()
     answers = models(lines)
     must(not any(map(generate.meets_number, answers)), "watched: a number is met")
+    must(min(refused_in(lines[:WATCHED_PART])) > 1, "watched: hardly a command that is not queued for its count")
     write("watched.in", lines)
     write("watched.out", answers)
     nil = sum(b"*-1\r\n".hex().encode() in line for line in answers)
+    counts, options = refused_in(lines)
     print(f"watched: {len(lines)} lines, {nil} of them with an EXEC answered *-1, {sum(a != b for a, b in zip(answers, rust(lines)))} answered otherwise by the Rust")
+    print(f"watched: not queued are {counts} commands of wrong count and {options} SET with options")
 
 
 def limit_lines():
@@ -126,7 +154,7 @@ def limits():
     for step in (
         b"MSET a 1 b 2\n", b"DEL a a\n", b"MULTI\nSET a 1\nSET b 2\nEXEC\n", b"DISCARD\n", b"WATCH a\nMULTI\nSET a 1\nSET a 2\nEXEC\n", b"SET a 3\n", b"GET a\n",
         b"INCR a\n", b"SET s x\n", b"INCRBY a x\n", b"INCRBY a 9223372036854775807\n", b"DEL zz\n", b"MULTI\nGET a\nEXEC\n", b"MULTI\nINCR a\nEXEC\n", b"EXEC\n",
-        b"DISCARD\n", b"MULTI\nFOO\nSET a 4\nEXEC\n", b"DBSIZE\n", b"MGET a b s\n",
+        b"DISCARD\n", b"MULTI\nFOO\nSET a 4\nEXEC\n", b"MULTI\nSET a 4\nSET a\nEXEC\n", b"DBSIZE\n", b"MGET a b s\n",
     ):
         lines += frame_lines(0, step)
     write("limits.in", lines)
@@ -320,7 +348,7 @@ PUBLISHED = [
     ),
 ]
 
-# The same with a write between first WATCH and EXEC: there the page alone is the yardstick, not the Rust
+# Here the page alone is the yardstick, not the Rust: a write between first WATCH and EXEC (R-7), or a command that is not queued (R-8)
 BY_THE_PAGE = [
     (
         f"{TRANSACTIONS}, optimistic locking: another client changes mykey between WATCH and EXEC, so EXEC answers the null reply",
@@ -361,6 +389,26 @@ BY_THE_PAGE = [
             (0, b"DEL key2\r\n", b":1\r\n"),
         ],
     ),
+    (
+        f"{TRANSACTIONS}, errors inside a transaction: a syntax error is reported at once, and INCR a b c is not queued at all",
+        [
+            (0, b"MULTI\r\n", b"+OK\r\n"),
+            (0, b"INCR a b c\r\n", b"-ERR wrong number of arguments for 'incr' command\r\n"),
+            (0, b"DISCARD\r\n", b"+OK\r\n"),
+        ],
+    ),
+    (
+        f"{TRANSACTIONS}, errors inside a transaction: after an error while queueing, EXEC answers an error and discards the transaction (the texts are the server's)",
+        [
+            (0, b"MULTI\r\n", b"+OK\r\n"),
+            (0, b"SET foo 1\r\n", b"+QUEUED\r\n"),
+            (0, b"SET foo\r\n", b"-ERR wrong number of arguments for 'set' command\r\n"),
+            (0, b"INCR bar\r\n", b"+QUEUED\r\n"),
+            (0, b"EXEC\r\n", b"-EXECABORT Transaction discarded because of previous errors.\r\n"),
+            (0, b"MGET foo bar\r\n", b"*2\r\n$-1\r\n$-1\r\n"),
+            (0, b"EXEC\r\n", b"-ERR EXEC without MULTI\r\n"),
+        ],
+    ),
 ]
 
 
@@ -383,7 +431,7 @@ def published():
     must(generate.lines_in_domain(judged) == len(judged), "published: an example leaves the domain")
     for example in BY_THE_PAGE:
         lines, _ = lines_of([example])
-        must(generate.lines_in_domain(lines) < len(lines), f"published: {example[0]}: nothing is written between WATCH and EXEC")
+        must(generate.lines_in_domain(lines) < len(lines), f"published: {example[0]}: it stays in the domain")
     must_answer("the Rust", rust(judged), answers)
     must_answer("the model", models(given), wanted)
     notes = [
@@ -396,8 +444,8 @@ def published():
         "keys for the next one. Two sessions (00, 01) are two clients. Left out are examples that document 01 narrows (commands, options,",
         "replies or texts that the Rust does not have or answers in another way).",
         "",
-        f"The Rust answers lines 1 to {len(judged)} alike. From line {len(judged) + 1} on something is written between WATCH and EXEC: there the page",
-        "alone is the yardstick (R-7 of document 02).",
+        f"The Rust answers lines 1 to {len(judged)} alike. From line {len(judged) + 1} on something is written between WATCH and EXEC (R-7 of document 02),",
+        "or a command inside MULTI is not queued for its argument count (R-8): there the page alone is the yardstick.",
         "",
         "| Lines | Source |",
         "|---|---|",
@@ -478,7 +526,7 @@ def at_the_versions(told):
     told.say(1, say(b"SET", b"", b""))
     told.say(0, b"EXEC\n", say(b"GET", b""), say(b"DEL", b""), b"MULTI\n", say(b"DEL", b"", b""), say(b"SET", b"", b""), b"EXEC\n", say(b"DEL", b""), say(b"SET", b"", b""))
     told.say(0, b"INCR a\n", b"INCRBY q x\n", b"INCRBY q 9223372036854775807\n", b"MULTI\nGET q\nEXEC\n", b"MULTI\nINCR q\nEXEC\n", b"EXEC\n", b"DISCARD\n")
-    told.say(0, b"MULTI\nFOO\nSET a 4\nEXEC\n", b"DBSIZE\n", b"MGET q a n\n", b"SCAN 0\n", b"RANGE q zz LIMIT 3\n")
+    told.say(0, b"MULTI\nFOO\nSET a 4\nEXEC\n", b"MULTI\nSET a 4\nSET a\nEXEC\n", b"DBSIZE\n", b"MGET q a n\n", b"SCAN 0\n", b"RANGE q zz LIMIT 3\n")
 
 
 def read_lines(name):

@@ -1,5 +1,5 @@
 #!/usr/bin/env python3
-"""A model of document 01 with R-7 of document 02: requests, sessions, versions, groups and the program `frames`, slow and obvious.
+"""A model of document 01 with R-7 and R-8 of document 02: requests, sessions, versions, groups and the program `frames`, slow and obvious.
 
 It is written from the documents' sentences, with lists, dictionaries and sets, and shares no code with the Rust.
 
@@ -464,7 +464,7 @@ def range_of(a, table):
     return array([bulk(item) for pair in found for item in pair])
 
 
-# Sessions (section 7, and R-7)
+# Sessions (section 7, R-7 and R-8)
 
 
 class Session(NamedTuple):

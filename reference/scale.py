@@ -6,7 +6,8 @@
     scale.py rust/frames_rust target/bin/frames 1 1000000
 
 Input is made without the model and stays in the domain (README.md): each run ends before its commands could write 1,024 versions or
-32,768 bytes, and a line with an EXEC is left out if behind its session's first WATCH in force came a request that may write.
+32,768 bytes. A line is left out if it has an EXEC and behind its session's first WATCH in force came a request that may write, or if it has
+a command inside MULTI that is not queued for its argument count.
 Where the two programs differ all the same, the model decides: a line that leaves the domain ends the run if the model and PROGRAM
 agree up to it, a number included; anything else is a difference, which is shown and shrunk.
 A request counts when the Rust answered it. Empty requests and bytes that wait are sent too and not counted.
@@ -66,7 +67,8 @@ class Tracker:
         self.names = Counter()
 
     def take(self, line):
-        """Takes a line; False, and nothing changes, if it holds an EXEC inside MULTI behind what counts as a write."""
+        """Takes a line; False, and nothing changes, if it holds an EXEC inside MULTI behind what counts as a write, or a command inside MULTI
+        that is not queued for its argument count."""
         given = compare.frame_of(line)
         if given is None or given[0] >= model.SESSIONS or len(given[1]) > model.FRAME_LIMIT:
             return True
@@ -109,6 +111,8 @@ class Tracker:
             sessions[s], writes = Tracked(), session.queued
         elif name == b"DISCARD":
             sessions[s] = Tracked()
+        elif name in model.QUEUEABLE and model.queue_refusal(name, count - 1):
+            return False
         elif name in MAY_WRITE:
             sessions[s] = session._replace(queued=True)
         if writes:

@@ -1,5 +1,5 @@
 #!/usr/bin/env python3
-"""Runs the model on the readings of document 01, on the points that its text leaves open, and on R-7. Exit status 1 on a difference."""
+"""Runs the model on the readings of document 01, on the points that its text leaves open, on R-7 and on R-8. Exit status 1 on a difference."""
 
 import sys
 
@@ -99,6 +99,11 @@ same("names counted", last_reply(b"MULTI\n", b"DEL" + b" k" * 511 + b"\n", b"PIN
 ABORT = b"-EXECABORT Transaction discarded because of previous errors.\r\n"
 same("a wrong count inside MULTI", replies(b"MULTI\n", b"SET a 1\n", b"SET a\n", b"EXEC\n")[2:], [b"-ERR wrong number of arguments for 'set' command\r\n", ABORT])
 same("SET with options inside MULTI", replies(b"MULTI\n", b"SET a 1 EX 5\n", b"EXEC\n")[1:], [b"-ERR SET options (EX, NX, ...) are not supported\r\n", ABORT])
+same("a wrong count leaves the queue", replies(b"MULTI\n", *[b"PING\n"] * 63, b"GET\n", b"PING\n", b"PING\n")[-2:], [b"+QUEUED\r\n", b"!4"])
+same("a wrong count in small letters", last_reply(b"MULTI\n", b"set a\n"), b"-ERR wrong number of arguments for 'set' command\r\n")
+same("SET with options in small letters", last_reply(b"MULTI\n", b"set a 1 ex 5\n"), b"-ERR SET options (EX, NX, ...) are not supported\r\n")
+same("SET with options before 4", last_reply(b"MULTI\n", *[b"PING\n"] * 64, b"SET a 1 NX\n"), b"-ERR SET options (EX, NX, ...) are not supported\r\n")
+same("a wrong count and DISCARD", replies(b"MULTI\n", b"GET\n", b"DISCARD\n", b"MULTI\n", b"EXEC\n")[-1], b"*0\r\n")
 same("a wrong count of a name not queued", last_reply(b"MULTI\n", b"SCAN\n"), b"-ERR 'SCAN' can't be used inside MULTI\r\n")
 same("WATCH without keys inside MULTI", last_reply(b"MULTI\n", b"WATCH\n", b"EXEC\n"), b"*0\r\n")
 same("a wrong count before 4", last_reply(b"MULTI\n", *[b"PING\n"] * 64, b"GET\n"), b"-ERR wrong number of arguments for 'get' command\r\n")
@@ -194,6 +199,7 @@ for name, state, wanted in (
     ("a queued SET without a value", session(queue=((b"SET", b"a"),)), 9),
     ("a queued SET with options", session(queue=((b"SET", b"a", b"1", b"EX", b"5"),)), 9),
     ("a queued MSET of three", session(queue=((b"MSET", b"a", b"1", b"b"),)), 9),
+    ("a queued SET with options in small letters", session(queue=((b"set", b"a", b"1", b"nx"),)), 9),
     ("a queued amount that is no number", session(queue=((b"INCRBY", b"a", b"x"),)), 0),
     ("33 watched keys", session(watched=tuple((b"%d" % i, 0) for i in range(33))), 9),
     ("a key watched at 6, last 5", session(watched=((b"a", 6),)), 9),

@@ -99,6 +99,13 @@ static void test_requests(void) {
     CHECK(answers(0, "EXEC\r\n", "*-1\r\n"));
     CHECK(answers(2, "EXEC\r\n", "*1\r\n$1\r\n2\r\n"));
     CHECK(answers(0, "MULTI\r\n", "+OK\r\n"));
+    CHECK(answers(0, "SET f 3\r\n", "+QUEUED\r\n"));
+    CHECK(session_words[1] == 0);
+    CHECK(answers(0, "SET f\r\n", "-ERR wrong number of arguments for 'set' command\r\n"));
+    CHECK(session_words[1] == 1 && session_words[3] == 1);
+    CHECK(answers(0, "EXEC\r\n", "-EXECABORT Transaction discarded because of previous errors.\r\n"));
+    CHECK(session_words[0] == 0 && session_words[1] == 0 && session_words[3] == 0 && holds("f", "2"));
+    CHECK(answers(0, "MULTI\r\n", "+OK\r\n"));
     CHECK(answers(0, "quit\r\n", "+OK\r\n"));
     CHECK(answers(0, "EXEC\r\n", "-ERR EXEC without MULTI\r\n"));
     CHECK(answers(0, "*-1\r\n", "-ERR Protocol error: invalid multibulk length '-1'\r\n"));
@@ -114,6 +121,14 @@ static void test_numbers(void) {
     CHECK(refuses(3, "PING\r\n", 9));
     session_words[3] = kept;
     CHECK(answers(3, "PING\r\n", "+PONG\r\n"));
+    CHECK(answers(0, "MULTI\r\n", "+OK\r\n"));
+    CHECK(answers(0, "SET f 3\r\n", "+QUEUED\r\n"));
+    session_words[68] = 2;
+    CHECK(refuses(3, "PING\r\n", 9));
+    session_words[1] = 1;
+    CHECK(refuses(3, "PING\r\n", 9));
+    session_words[68] = 3;
+    CHECK(answers(0, "DISCARD\r\n", "+OK\r\n"));
     CHECK(answers(0, "WATCH a b\r\n", "+OK\r\n"));
     session_words[37] = 45;
     CHECK(words[2] == 44 && refuses(3, "PING\r\n", 9));

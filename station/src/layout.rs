@@ -1,6 +1,7 @@
 //! The lent memory read without the library, by the tables of docs/DECISIONS.md: what it holds, and whether it gives 9.
 use crate::core::{HEADER_WORDS, SESSIONS, SESSION_BYTES, SESSION_WORDS, VERSION_WORDS};
 
+pub const FAILED: usize = 1;
 pub const WATCHED: usize = 2;
 pub const QUEUED: usize = 3;
 pub const WATCH_LENGTHS: usize = 4;
@@ -78,18 +79,19 @@ fn queue_ok(words: &[u64], bytes: &[u8]) -> bool {
     counts.iter().all(|n| {
         let name = parts[at].to_ascii_uppercase();
         at += *n as usize;
-        QUEUEABLE.contains(&name.as_slice()) && count_ok(&name, *n - 1)
+        may_queue(&name, *n - 1)
     })
 }
 
-/// Whether one of the eleven may be queued with this many arguments behind its name.
-fn count_ok(name: &[u8], count: u64) -> bool {
+/// Whether a name in capitals may be queued with this many arguments behind it; SET with options may not.
+pub fn may_queue(name: &[u8], count: u64) -> bool {
     match name {
         b"GET" | b"INCR" | b"DECR" | b"ECHO" => count == 1,
         b"SET" | b"INCRBY" => count == 2,
         b"MSET" => 2 <= count && count % 2 == 0,
         b"PING" => count <= 1,
-        _ => 1 <= count,
+        b"DEL" | b"EXISTS" | b"MGET" => 1 <= count,
+        _ => false,
     }
 }
 

@@ -25,6 +25,10 @@ same "MULTI, EXEC of nothing" "$(printf 'MULTI\nEXEC\n' | cli)" "$(printf 'OK\n'
 same "DISCARD" "$(printf 'MULTI\nSET x 9\nDISCARD\nGET x\n' | cli)" "$(printf 'OK\nQUEUED\nOK\n2')"
 same "EXECABORT" "$(printf 'MULTI\nFOO\nSET x 9\nEXEC\nGET x\n' | cli)" \
     "$(printf "OK\nERR 'FOO' can't be used inside MULTI\n\nQUEUED\nEXECABORT Transaction discarded because of previous errors.\n\n2")"
+same "EXECABORT after a wrong count" "$(printf 'MULTI\nSET x 9\nSET x\nEXEC\nGET x\n' | cli)" \
+    "$(printf "OK\nQUEUED\nERR wrong number of arguments for 'set' command\n\nEXECABORT Transaction discarded because of previous errors.\n\n2")"
+same "EXECABORT after SET with options" "$(printf 'MULTI\nSET x 9 EX 5\nEXEC\nGET x\n' | cli)" \
+    "$(printf 'OK\nERR SET options (EX, NX, ...) are not supported\n\nEXECABORT Transaction discarded because of previous errors.\n\n2')"
 same "EXEC without MULTI" "$(cli EXEC)" "ERR EXEC without MULTI"
 
 # Two consoles: the second writes the watched key before the first carries out its queue.

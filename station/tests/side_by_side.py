@@ -1,9 +1,9 @@
 """side_by_side.py STATION_PORT REDIS_PORT: the same requests to both.
 
-SAME holds lists of steps whose replies are equal, byte by byte. WATCHES holds such lists for the watch of each key (document 02, R-7), each
-with its name and the last reply. DIFFERENT holds those where the documents ask for another answer than Redis gives, each with the reason
-and both replies; a case of it whose replies have become equal is an error too. A step is a console and its words; `{k}` in a word is a
-prefix of that case alone, so that no case meets the keys of another.
+SAME holds lists of steps whose replies are equal, byte by byte. WATCHES holds such lists for the watch of each key (document 02, R-7) and
+COUNTS for argument counts inside MULTI (R-8), each with its name and the last reply. DIFFERENT holds those where the documents ask for
+another answer than Redis gives, each with the reason and both replies; a case of it whose replies have become equal is an error too. A
+step is a console and its words; `{k}` in a word is a prefix of that case alone, so that no case meets the keys of another.
 """
 import socket
 import sys
@@ -42,7 +42,6 @@ SAME = [
     ["0 MULTI", "0 SET {k}a 1", "1 GET {k}a", "0 EXEC", "1 GET {k}a"],
     ["0 WATCH", "0 UNWATCH"],
     ["0 MULTI", "0 WATCH {k}a", "0 PING", "0 EXEC"],
-    ["0 MULTI", "0 SET {k}a 1", "0 SET {k}a", "0 EXEC", "0 GET {k}a"],
     ["0 KEYS {k}*", "0 SET {k}one 1", "0 KEYS {k}*", "0 KEYS {k}?ne", "0 KEYS {k}\\one", "0 KEYS"],
     ["0 SET {k}a b", "0 set {k}a c", "0 GeT {k}a"],
     ["0 QUIT"],
@@ -65,12 +64,40 @@ WATCHES = [
     ("a counter's key", ["0 WATCH {k}a", "1 INCR {k}n", "0 MULTI", "0 INCR {k}n", "0 EXEC"], "*1\r\n:2\r\n"),
 ]
 
+# A wrong count is not queued, and what stands around it is not carried out.
+NOT_QUEUED = [
+    "SET {k}a", "set {k}a", "SET", "GET", "GET {k}a {k}b", "MSET", "MSET {k}a", "INCR", "INCR {k}a {k}b {k}c", "INCRBY {k}a", "INCRBY {k}a 1 2", "DECR",
+    "ECHO", "ECHO a b", "DEL", "EXISTS", "MGET",
+]
+ABORTED = "-EXECABORT Transaction discarded because of previous errors.\r\n"
+COUNTS = [
+    (f"{words} inside MULTI", ["0 MULTI", "0 SET {k}q 1", f"0 {words}", "0 INCR {k}q", "0 EXEC", "0 GET {k}q"], "$-1\r\n") for words in NOT_QUEUED
+] + [
+    ("a wrong count, then EXEC", ["0 MULTI", "0 GET", "0 EXEC"], ABORTED),
+    ("EXEC ends the transaction", ["0 MULTI", "0 GET", "0 EXEC", "0 EXEC"], "-ERR EXEC without MULTI\r\n"),
+    ("a wrong count, then DISCARD", ["0 MULTI", "0 GET", "0 DISCARD", "0 MULTI", "0 PING", "0 EXEC"], "*1\r\n+PONG\r\n"),
+    ("a wrong count and a conflict", ["0 WATCH {k}a", "1 SET {k}a 1", "0 MULTI", "0 GET", "0 EXEC"], ABORTED),
+    ("a wrong count behind 64 commands", ["0 MULTI"] + ["0 PING"] * 64 + ["0 GET", "0 EXEC"], ABORTED),
+    ("a wrong count outside MULTI", ["0 SET {k}a", "0 MULTI", "0 EXEC"], "*0\r\n"),
+    ("a wrong count of another console", ["0 MULTI", "0 SET {k}a 1", "1 SET {k}a", "0 EXEC"], "*1\r\n+OK\r\n"),
+    ("an amount that is no number", ["0 MULTI", "0 INCRBY {k}n x", "0 EXEC"], "*1\r\n-ERR value is not an integer or out of range\r\n"),
+    ("MULTI inside MULTI does not mark", ["0 MULTI", "0 MULTI", "0 PING", "0 EXEC"], "*1\r\n+PONG\r\n"),
+]
+
 # Name of the difference in the documents or in what they take from the Rust, the steps, and what each side answers to the last step.
 DIFFERENT = [
     ("unknown command: no list of arguments", ["0 FOO a"], "-ERR unknown command 'FOO'\r\n", "-ERR unknown command 'FOO', with args beginning with: 'a' \r\n"),
     ("INFO outside MULTI is unknown", ["0 INFO nothing"], "-ERR unknown command 'INFO'\r\n", "$0\r\n\r\n"),
     ("eleven names may be queued", ["0 MULTI", "0 DBSIZE"], "-ERR 'DBSIZE' can't be used inside MULTI\r\n", "+QUEUED\r\n"),
     ("UNWATCH inside MULTI marks the session", ["0 MULTI", "0 UNWATCH"], "-ERR 'UNWATCH' can't be used inside MULTI\r\n", "+QUEUED\r\n"),
+    ("SCAN inside MULTI keeps its text, whatever its count", ["0 MULTI", "0 SCAN"], "-ERR 'SCAN' can't be used inside MULTI\r\n", "-ERR wrong number of arguments for 'scan' command\r\n"),
+    ("WATCH inside MULTI keeps its text, whatever its count", ["0 MULTI", "0 WATCH"], "-ERR WATCH inside MULTI is not allowed\r\n", "-ERR wrong number of arguments for 'watch' command\r\n"),
+    ("WATCH without keys inside MULTI does not mark the session", ["0 MULTI", "0 WATCH", "0 EXEC"], "*0\r\n", ABORTED),
+    ("MSET that ends with a key is told when queueing", ["0 MULTI", "0 MSET {k}a 1 {k}b"], "-ERR wrong number of arguments for 'mset' command\r\n", "+QUEUED\r\n"),
+    ("PING with two arguments is told when queueing", ["0 MULTI", "0 PING a b"], "-ERR wrong number of arguments for 'ping' command\r\n", "+QUEUED\r\n"),
+    ("SET has no options", ["0 SET {k}a 1 NX"], "-ERR SET options (EX, NX, ...) are not supported\r\n", "+OK\r\n"),
+    ("SET with options is not queued", ["0 MULTI", "0 SET {k}a 1 EX 5"], "-ERR SET options (EX, NX, ...) are not supported\r\n", "+QUEUED\r\n"),
+    ("SET with options marks the session", ["0 MULTI", "0 SET {k}a 1 EX 5", "0 EXEC"], ABORTED, "*1\r\n+OK\r\n"),
     ("DEL counts a repeated argument twice", ["0 SET {k}a 1", "0 DEL {k}a {k}a"], ":2\r\n", ":1\r\n"),
     ("a whole number may have a plus sign", ["0 INCRBY {k}n +7"], ":7\r\n", "-ERR value is not an integer or out of range\r\n"),
     ("a whole number may have leading zeros", ["0 SET {k}n 007", "0 INCR {k}n"], ":8\r\n", "-ERR value is not an integer or out of range\r\n"),
@@ -142,7 +169,7 @@ def main():
         for step, ours, theirs in both(station, redis, steps, f"s{i}:"):
             if ours != theirs:
                 sys.exit(f"{steps}, at {step}\n station {ours!r}\n redis   {theirs!r}")
-    for i, (what, steps, due) in enumerate(WATCHES):
+    for i, (what, steps, due) in enumerate(WATCHES + COUNTS):
         told = both(station, redis, steps, f"w{i}:")
         if any(ours != theirs for _, ours, theirs in told) or told[-1][1] != due.encode():
             sys.exit(f"{what}: due {due!r}, told {told}")
@@ -151,7 +178,7 @@ def main():
         if ours != our_due.encode() or ours == theirs or (their_due is not None and theirs != their_due.encode()):
             sys.exit(f"{why}: {steps}\n station {ours!r}, due {our_due!r}\n redis   {theirs!r}, due {their_due!r}")
         print(f"difference: {why}")
-    print(f"side_by_side.py: {len(SAME) + len(WATCHES)} cases with equal replies, {len(DIFFERENT)} with the differences named")
+    print(f"side_by_side.py: {len(SAME) + len(WATCHES) + len(COUNTS)} cases with equal replies, {len(DIFFERENT)} with the differences named")
 
 
 main()

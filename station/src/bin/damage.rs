@@ -2,7 +2,7 @@
 //! document 01 and leave the store that it says. Store, sessions, argument table, reply and verdicts are compared byte by byte.
 use station::core::{self, Answer, Member, Memory, SESSIONS, SESSION_BYTES, SESSION_WORDS};
 use station::groups::{lent, Group, Plain, Store};
-use station::layout::{self, ARGUMENT_COUNTS, ARGUMENT_LENGTHS, QUEUED, WATCHED, WATCH_BYTES, WATCH_LENGTHS, WATCH_SEQUENCES};
+use station::layout::{self, ARGUMENT_COUNTS, ARGUMENT_LENGTHS, FAILED, QUEUED, WATCHED, WATCH_BYTES, WATCH_LENGTHS, WATCH_SEQUENCES};
 use station::random::Random;
 use std::collections::BTreeMap;
 use std::process::exit;
@@ -64,10 +64,13 @@ fn lived(random: &mut Random) -> Memory {
         if random.once_in(2) {
             send(&mut state, session, &[b"MULTI"]);
             for _ in 0..1 + random.below(4) {
-                match random.below(3) {
-                    0 => send(&mut state, session, &[b"PING"]),
-                    1 => send(&mut state, session, &[b"incr", b"n"]),
-                    _ => send(&mut state, session, &[b"SET", *random.pick(&KEYS), b"queued"]),
+                match random.below(7) {
+                    0 | 1 => send(&mut state, session, &[b"PING"]),
+                    2 => send(&mut state, session, &[b"incr", b"n"]),
+                    3 => send(&mut state, session, &[b"INCRBY", b"n", b"no number"]),
+                    // not queued: it marks the session
+                    4 => send(&mut state, session, &[b"GET"]),
+                    _ => send(&mut state, session, &[*random.pick(&[b"SET", b"set"]), *random.pick(&KEYS), b"queued"]),
                 }
             }
         }
@@ -115,8 +118,8 @@ fn row(state: &Memory, random: &mut Random) -> Option<usize> {
     (state.words[0] > 0).then(|| 5 + 4 * random.below(state.words[0] as usize))
 }
 
-/// Every kind of state that document 01 lists under 9. A damage that cannot be done to a state answers `None`.
-const DAMAGES: [(&str, Damage); 38] = [
+/// Every kind of state that the documents list under 9. A damage that cannot be done to a state answers `None`.
+const DAMAGES: [(&str, Damage); 39] = [
     ("count above its capacity", |s, r| Some(s.words[0] = s.words[3] + 1 + r.below(9) as u64)),
     ("count of any size", |s, r| Some(s.words[0] = *r.pick(&HUGE))),
     ("a version left out of the count", |s, _| Some(s.words[0] = s.words[0].checked_sub(1)?)),
@@ -176,11 +179,30 @@ const DAMAGES: [(&str, Damage); 38] = [
     }),
     ("a queued command of wrong argument count", |s, r| {
         let at = session_with(s, r, QUEUED, 1)?;
-        // SET with its key and value becomes GET
-        match &mut s.session_bytes[at / SESSION_WORDS * SESSION_BYTES + WATCH_BYTES] {
-            first if *first == b'S' => Some(*first = b'G'),
-            _ => None,
+        let first = at / SESSION_WORDS * SESSION_BYTES + WATCH_BYTES;
+        // another name that is as long and may be queued, but not with these arguments
+        let name: &[u8] = match s.session_bytes[first] {
+            b'P' => b"ECHO",
+            b'i' => b"mset",
+            b'S' => b"GET",
+            b's' => b"get",
+            _ => return None,
+        };
+        s.session_words[at + FAILED] = r.below(2) as u64;
+        Some(s.session_bytes[first..][..name.len()].copy_from_slice(name))
+    }),
+    ("a queued SET with options", |s, r| {
+        let at = session_with(s, r, QUEUED, 2)?;
+        if !b"Ss".contains(&s.session_bytes[at / SESSION_WORDS * SESSION_BYTES + WATCH_BYTES]) {
+            return None;
         }
+        s.session_words[at + FAILED] = r.below(2) as u64;
+        // the command behind SET becomes its options
+        let queued = s.session_words[at + QUEUED] as usize;
+        let counts = &mut s.session_words[at + ARGUMENT_COUNTS..][..queued];
+        counts[1] += counts[0];
+        counts.copy_within(1.., 0);
+        Some(s.session_words[at + QUEUED] -= 1)
     }),
     ("sessions cut short", |s, r| {
         let cut = 1 + r.below(2000);

@@ -1,8 +1,10 @@
 //! lockstep REFERENCE SEED CALLS: the library beside a program that speaks the form of `frames`, on the same generated frames,
 //! until so many request calls were made. Prints the first line that differs and fails; a number counts as a difference.
-//! The Rust is the yardstick of an EXEC only where nothing was written between its session's first WATCH in force and the EXEC.
+//! The Rust is the yardstick of an EXEC only where nothing was written between its session's first WATCH in force and the EXEC, and of a
+//! command inside MULTI only where its argument count is right and it is no SET with options.
 use station::core;
 use station::frames::{hex, Frames, LIMIT};
+use station::layout::{may_queue, QUEUEABLE};
 use station::random::Random;
 use std::io::{Read, Write};
 use std::process::{exit, Command, Stdio};
@@ -82,6 +84,16 @@ impl Source {
         words
     }
 
+    /// The same inside MULTI: where the name may be queued, with arguments with which it is.
+    fn command_inside(&mut self) -> Vec<Vec<u8>> {
+        loop {
+            let words = self.command();
+            if !QUEUEABLE.contains(&words[0].as_slice()) || may_queue(&words[0], words.len() as u64 - 1) {
+                return words;
+            }
+        }
+    }
+
     fn listing(&mut self) -> Vec<Vec<u8>> {
         let pattern = self.random.pick(&PATTERNS).to_vec();
         match self.random.below(6) {
@@ -112,6 +124,7 @@ impl Source {
             3 if full || self.random.once_in(4) => vec![b"DISCARD".to_vec()],
             4 if self.random.once_in(8) => vec![b"UNWATCH".to_vec()],
             5 if self.random.once_in(40) => vec![b"quit".to_vec()],
+            _ if multi => self.command_inside(),
             _ => self.command(),
         };
         self.follow(session, &words[0]);
