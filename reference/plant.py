@@ -95,7 +95,7 @@ FAULTS = [
     ("command/amounts.rt", "COUNT 0 is taken", "if value < 1 {", "if value < 0 {"),
     ("command/options.rt", "more than one LIMIT is taken", "if count == 5 {", "if 5 <= count {"),
     ("command/options.rt", "the word LIMIT is read as its number", "integer::int_arg(arguments::argument(input, places, count, 4))", "integer::int_arg(arguments::argument(input, places, count, 3))"),
-    ("names/lib.rt", "SET with an option is a SET", "return count != 2;", "return count < 2;"),
+    ("command/lib.rt", "SET with an option is a SET", "if names::with_options(row, count - 1) {", "if names::with_options(names::UNKNOWN, count - 1) {"),
     ("reading/see.rt", "a tombstone of EXEC is told by its start", "own[row + 3] == 0", "own[row + 2] == 0"),
     ("reading/live.rt", "a key that EXEC deleted counts", "Seen::Absent => false,", "Seen::Absent => 0 < n,"),
     ("reading/values.rt", "MGET's head counts the name", "let mut put = reply::put_head(out, b'*', (to - from) as u64);", "let mut put = reply::put_head(out, b'*', to as u64);"),
