@@ -4,14 +4,16 @@ use Prim.Native.String.{String}
 use mathlib.Core.List.{List, [], _∷_, _++_, map}
 use mathlib.Core.Bool.{Bool, false, not}
 use lib.Dec.{T, eqb}
+use lib.IntN.{pos, negsuc}
 use lib.ListN.{length, getD, replicate}
 use Rattle.key.specs.Bytes.{Bytes, bytes, sameBytes, concat}
+use Rattle.number.specs.Number.{intArg}
 use Rattle.server.specs.Sessions.{sessionOk}
 use Rattle.calls.specs.Calls.{Lent, open-call, request-call, Call, request, grouped}
 use Rattle.calls.specs.Posting.{Item, alone, listed, exec, member}
 use Rattle.calls.specs.Demand3.{itemsOf}
 use Rattle.calls.specs.Opens.{calls-opens}
-use Rattle.readings.specs.Readings.{opened, Line, line, after, answerTo, first, gives, replies, every}
+use Rattle.readings.specs.Readings.{opened, isNumber, isNone, Line, line, after, answerTo, first, gives, replies, every}
 
 abbrev kindOf : Item → ℕ
 kindOf (alone c b) = 1
@@ -208,3 +210,44 @@ queueing =
 queueing-holds : T (every queueing)
 unfolding calls-opens queueing every after begun
 queueing-holds = tt
+
+-- WHOLE NUMBERS (document 02, R-1). Texts that are numbers, and texts that are none
+unfoldable numberTexts : List Bool
+numberTexts =
+    isNumber (intArg (bytes "0")) (pos 0)
+    ∷ isNumber (intArg (bytes "10")) (pos 10)
+    ∷ isNumber (intArg (bytes "-1")) (negsuc 0)
+    ∷ isNumber (intArg (bytes "9223372036854775807")) (pos 9223372036854775807)
+    ∷ isNumber (intArg (bytes "-9223372036854775808")) (negsuc 9223372036854775807)
+    ∷ isNone (intArg (bytes "9223372036854775808"))
+    ∷ isNone (intArg (bytes "-9223372036854775809"))
+    ∷ isNone (intArg [])
+    ∷ isNone (intArg (bytes "-"))
+    ∷ isNone (intArg (bytes "-0"))
+    ∷ isNone (intArg (bytes "+1"))
+    ∷ isNone (intArg (bytes "01"))
+    ∷ isNone (intArg (bytes "-01"))
+    ∷ []
+
+number-texts-hold : T (every numberTexts)
+unfolding calls-opens numberTexts every
+number-texts-hold = tt
+
+-- where they are read, each with its own error text; lengths keep their rule
+unfoldable numberPlaces : List Bool
+numberPlaces =
+    -- the text that a key holds
+    replies (answerTo (line 0 "INCR n") (after (line 0 "SET n +007" ∷ []) opened)) "-ERR value is not an integer or out of range\r\n"
+    ∷ replies (answerTo (line 0 "DECR n") (after (line 0 "SET n -0" ∷ []) opened)) "-ERR value is not an integer or out of range\r\n"
+    ∷ replies (answerTo (line 0 "INCRBY n 1") (after (line 0 "SET n 01" ∷ []) opened)) "-ERR value is not an integer or out of range\r\n"
+    -- the amount
+    ∷ replies (answerTo (line 0 "INCRBY n -0") opened) "-ERR value is not an integer or out of range\r\n"
+    ∷ replies (answerTo (line 0 "SCAN 00") kSet) "-ERR invalid cursor\r\n"
+    ∷ replies (answerTo (line 0 "SCAN 0 COUNT 01") kSet) "-ERR value is not an integer or out of range\r\n"
+    ∷ replies (answerTo (line 0 "RANGE a z LIMIT +1") kSet) "-ERR LIMIT must be a non-negative integer\r\n"
+    ∷ gives (first "*+1\r\n$04\r\nPING\r\n") 16 "+PONG\r\n"
+    ∷ []
+
+number-places-hold : T (every numberPlaces)
+unfolding calls-opens numberPlaces kSet every after
+number-places-hold = tt
