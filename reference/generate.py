@@ -23,6 +23,7 @@ import itertools
 import random
 import re
 import sys
+from unittest import mock
 
 import model
 
@@ -44,6 +45,8 @@ NUMBERS = [
     b"-9223372036854775808", b"-9223372036854775809", b"+9223372036854775807", b"0009223372036854775807", b"18446744073709551616",
     b"1" * 40, b"0" * 40, b"\xef\xbc\x91", b"\xff", b"1\n", b"1_0",
 ]
+# Whole numbers to the Rust and, by R-1, not here: with +, leading zeros or -0
+SKIPPED = re.compile(rb"\+[0-9]+|-?0[0-9]+|-0")
 UNKNOWN = [
     b"FOO", b"", b"GE", b"GETS", b"SETEX", b"G\xc3\xa9T", b"G\xffT", b"\xc3", b"foo\r\nbar", b"\xe2\x82x", b"\xed\xa0\x80", b"PING\x00",
     b"\xf0\x90\x80", b"\xf4\x90\x80\x80", b"\xc0\x80", b"'", b"INCRBYFLOAT", b"QUITS", b"\xef\xbf\xbd", b"$", b"get get",
@@ -63,11 +66,21 @@ BAD_LINES = [
 
 
 class Omitted(Exception):
-    """What runs against the Rust leave out: INFO outside MULTI, an EXEC behind a write since its session's first WATCH in force (R-7), a command
-    inside MULTI that is not queued for its argument count (R-8)."""
+    """What runs against the Rust leave out: INFO outside MULTI, a number text that R-1 skips, an EXEC behind a write since its session's first
+    WATCH in force (R-7), a command inside MULTI that is not queued for its argument count (R-8)."""
+
+
+def whole_number(text, read=model.whole_number):
+    if SKIPPED.fullmatch(text):
+        raise Omitted
+    return read(text)
 
 
 class Domain(model.Registry):
+    def respond(self, session, args):
+        with mock.patch.object(model, "whole_number", whole_number):
+            return super().respond(session, args)
+
     def written_since_watch(self, session):
         """Was a version added since the session's first WATCH in force?"""
         return any(sequence < self.store.last for _, sequence in session.watched)
@@ -170,12 +183,17 @@ class Mixed:
     def key(self):
         return self.rng.choice(self.keys) if not self.chance(0.02) else self.rng.choice(ODD_KEYS)
 
+    def number(self, among=NUMBERS):
+        """One of the texts; of one that is skipped, the number as it is written."""
+        text = self.rng.choice(among)
+        return b"%d" % int(text) if SKIPPED.fullmatch(text) else text
+
     def value(self):
         r = self.rng.random()
         if r < self.numeric:
-            return self.rng.choice(NUMBERS[:9])
+            return self.number(NUMBERS[:9])
         if r < self.numeric + 0.2:
-            return self.rng.choice(NUMBERS)
+            return self.number()
         return bytes(self.rng.choice(b"abxyz \r\n\xff0") for _ in range(self.rng.choice([0, 1, 2, 3, 5, 12])))
 
     def pattern(self):
@@ -199,7 +217,7 @@ class Mixed:
             b"MSET": lambda: [x for _ in range(self.rng.choice([1, 2, 3])) for x in (self.key(), self.value())],
             b"INCR": lambda: [self.key()],
             b"DECR": lambda: [self.key()],
-            b"INCRBY": lambda: [self.key(), self.rng.choice(NUMBERS)],
+            b"INCRBY": lambda: [self.key(), self.number()],
             b"PING": lambda: [] if self.chance(0.7) else [self.value()],
             b"ECHO": lambda: [self.value()],
             b"DBSIZE": lambda: [],
@@ -218,14 +236,14 @@ class Mixed:
                 return args
 
     def scan_arguments(self):
-        cursor = self.rng.choice([b"0", b"0", b"0", b"1", b"2", b"3", b"10"]) if self.chance(0.8) else self.rng.choice(NUMBERS)
+        cursor = self.rng.choice([b"0", b"0", b"0", b"1", b"2", b"3", b"10"]) if self.chance(0.8) else self.number()
         a = [cursor]
         for _ in range(self.rng.choice([0, 0, 1, 1, 2, 3])):
             r = self.rng.random()
             if r < 0.45:
                 a += [self.letters(b"MATCH"), self.pattern()]
             elif r < 0.9:
-                a += [self.letters(b"COUNT"), self.rng.choice([b"1", b"2", b"3", b"5"] if self.chance(0.7) else NUMBERS)]
+                a += [self.letters(b"COUNT"), self.number([b"1", b"2", b"3", b"5"] if self.chance(0.7) else NUMBERS)]
             elif r < 0.95:
                 a += [self.rng.choice([b"LIMIT", b"MATC", b"TYPE", b""]), b"1"]
             else:
@@ -237,7 +255,7 @@ class Mixed:
         a = [self.rng.choice(bounds) if self.chance(0.5) else self.key(), self.rng.choice(bounds) if self.chance(0.5) else self.key()]
         r = self.rng.random()
         if r < 0.4:
-            a += [self.letters(b"LIMIT"), self.rng.choice([b"0", b"1", b"2", b"5"] if self.chance(0.7) else NUMBERS)]
+            a += [self.letters(b"LIMIT"), self.number([b"0", b"1", b"2", b"5"] if self.chance(0.7) else NUMBERS)]
         elif r < 0.5:
             a += self.rng.choice([[b"LIMIT"], [b"LIMIT", b"1", b"1"], [b"COUNT", b"1"], [b""], [b"LIMI", b"x"], [b"LIMIT", b"1", b"LIMIT", b"1"]])
         return a
@@ -392,6 +410,9 @@ class Free(Mixed):
     def __init__(self, rng, lines, **fixed):
         chosen = {"wrong": rng.choice([0.0, 0.05, 0.2])}  # how many commands inside MULTI have a wrong count, or are SET with options
         super().__init__(rng, lines, **(chosen | fixed))
+
+    def number(self, among=NUMBERS):
+        return self.rng.choice(among)
 
     def stale(self, s):
         return False

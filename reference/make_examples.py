@@ -2,9 +2,9 @@
 """Writes crates/examples/stdin and crates/examples/stdout.
 
 What is expected is written here, and never comes from the program: the stored requests have the answers of samples/requests.out, the
-readings those of document 01, the published examples what the pages print. The Rust's own functions give the same on the readings, but for
-`too many` and `full`: it lends no argument table and no buffer. The published examples were written down from memory, without the pages
-at hand.
+readings those of document 01 and, for whole numbers, of R-1, the published examples what the pages print. The Rust's own functions give the
+same on the readings, but for number texts that R-1 refuses and for `too many` and `full`: it lends no argument table and no buffer. The
+published examples were written down from memory, without the pages at hand.
 
 A record is a byte that tells its kind, three bytes of length, the highest first, and its bytes:
   #      a label: written as it is, in front of the next record's line
@@ -249,16 +249,20 @@ def replies():
 
 
 def numbers():
-    """Document 01, section 5: an optional `+` or `-`, one or more digits, within i64; a sum beyond i64 is none."""
+    """R-1: `0`, or an optional `-` and digits that begin with 1 to 9, within i64; a sum beyond i64 is none."""
     number("9223372036854775807", "9223372036854775807")
     number("9223372036854775808", "none")
     number("-9223372036854775808", "-9223372036854775808")
     number("-9223372036854775809", "none")
     number("18446744073709551617", "none")
     number("0", "0")
-    number("-0", "0")
-    number("+7", "7")
-    number("-00000000000000000000000012", "-12")
+    number("-0", "none")
+    number("+7", "none")
+    number("01", "none")
+    number("-01", "none")
+    number("00", "none")
+    number("-7", "-7")
+    number("-00000000000000000000000012", "none")
     number("", "none")
     number("+", "none")
     number("-", "none")
@@ -273,7 +277,8 @@ def numbers():
     total("-9223372036854775808", "0", "-9223372036854775808")
     total("-9223372036854775808", "-1", "none")
     total("-1", "-9223372036854775808", "none")
-    total("+7", "-10", "-3")
+    total("7", "-10", "-3")
+    total("+7", "-10", "none")
 
 
 def resp2():

@@ -1,5 +1,5 @@
 #!/usr/bin/env python3
-"""A model of document 01 with R-7 and R-8 of document 02: requests, sessions, versions, groups and the program `frames`, slow and obvious.
+"""A model of document 01 with R-1, R-7 and R-8 of document 02: requests, sessions, versions, groups and the program `frames`, slow and obvious.
 
 It is written from the documents' sentences, with lists, dictionaries and sets, and shares no code with the Rust.
 
@@ -21,7 +21,7 @@ QUEUE_COMMANDS, QUEUE_ARGUMENTS, QUEUE_BYTES = 64, 512, 8192
 WATCH_KEYS, WATCH_BYTES = 32, 2048
 GROUP_MEMBERS, GROUP_BYTES = 64, 1048576
 
-# Whole numbers (section 5) and lengths (section 3)
+# Whole numbers (R-1) and lengths (section 3)
 
 
 def value_of(digits):
@@ -31,11 +31,11 @@ def value_of(digits):
 
 
 def whole_number(text):
-    """Optional + or -, digits, at least one, within i64; otherwise None."""
-    m = re.fullmatch(rb"([+-]?)([0-9]+)", text)
+    """`0`, or an optional - and digits that begin with 1 to 9, within i64; otherwise None."""
+    m = re.fullmatch(rb"0|(-?)([1-9][0-9]*)", text)
     if m is None:
         return None
-    n = value_of(m[2])
+    n = value_of(m[2] or b"0")
     if m[1] == b"-":
         n = -n
     return n if -(2**63) <= n < 2**63 else None

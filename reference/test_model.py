@@ -1,5 +1,5 @@
 #!/usr/bin/env python3
-"""Runs the model on the readings of document 01, on the points that its text leaves open, on R-7 and on R-8. Exit status 1 on a difference."""
+"""Runs the model on the readings of document 01, on the points that its text leaves open, on R-1, on R-7 and on R-8. Exit status 1 on a difference."""
 
 import sys
 
@@ -61,7 +61,6 @@ for n, wanted in ((65536, (0, 65537)), (65537, (0, 65538))):
 same("smallest", model.whole_number(b"-9223372036854775808"), -(2**63))
 same("too large", model.whole_number(b"9223372036854775808"), None)
 same("sign alone", model.whole_number(b"+"), None)
-same("-0", model.whole_number(b"-0"), 0)
 r = registry()
 same("overflow", last_reply(b"SET n 9223372036854775807\n", b"INCR n\n", r=r), b"-ERR increment or decrement would overflow\r\n")
 same("no version", r.store.last, 1)
@@ -229,6 +228,21 @@ for name, lent in (
     same(name, model.lent_store(lent), 9)
 same("two keys of one sequence", isinstance(model.lent_store(good._replace(rows=[(0, 1, 1, 2), (2, 1, None, 2)], buffer=b"axb" + bytes(13))), Store), True)
 same("opening", model.open_store(0, 5, 16, 4, 16), 9)
+
+# R-1: whole numbers as Redis writes them
+for text, n in ((b"0", 0), (b"10", 10), (b"-1", -1), (b"9223372036854775807", 2**63 - 1), (b"-9223372036854775808", -(2**63))):
+    same(f"a number: {text}", (model.whole_number(text), model.decimal(n)), (n, text))
+for text in (b"", b"-", b"+", b"-0", b"+0", b"+1", b"00", b"01", b"-01", b"9223372036854775808", b"-9223372036854775809"):
+    same(f"no number: {text}", model.whole_number(text), None)
+not_integer = b"-ERR value is not an integer or out of range\r\n"
+for text in (b"+007", b"-0", b"01"):
+    for name in (b"INCR n\n", b"DECR n\n", b"INCRBY n 1\n"):
+        same(f"{name} of {text}", last_reply(b"SET n " + text + b"\n", name), not_integer)
+    same(f"INCRBY n {text}", last_reply(b"INCRBY n " + text + b"\n"), not_integer)
+    same(f"SCAN {text}", last_reply(b"SCAN " + text + b"\n"), b"-ERR invalid cursor\r\n")
+    same(f"COUNT {text}", last_reply(b"SCAN 0 COUNT " + text + b"\n"), not_integer)
+    same(f"LIMIT {text}", last_reply(b"RANGE a z LIMIT " + text + b"\n"), b"-ERR LIMIT must be a non-negative integer\r\n")
+same("lengths keep their rule", last_reply(b"*+1\r\n$04\r\nPING\r\n"), b"+PONG\r\n")
 
 # UTF-8 against Python's own reader
 for n in range(3):
