@@ -1,9 +1,9 @@
 """side_by_side.py STATION_PORT REDIS_PORT: the same requests to both.
 
-SAME holds lists of steps whose replies are equal, byte by byte. WATCHES holds such lists for the watch of each key (document 02, R-7) and
-COUNTS for argument counts inside MULTI (R-8), each with its name and the last reply. DIFFERENT holds those where the documents ask for
-another answer than Redis gives, each with the reason and both replies; a case of it whose replies have become equal is an error too. A
-step is a console and its words; `{k}` in a word is a prefix of that case alone, so that no case meets the keys of another.
+SAME holds lists of steps whose replies are equal, byte by byte. WATCHES holds such lists for the watch of each key (document 02, R-7), COUNTS
+for argument counts inside MULTI (R-8) and NUMBERS for whole numbers (R-1), each with its name and the last reply. DIFFERENT holds those where
+the documents ask for another answer than Redis gives, each with the reason and both replies; a case of it whose replies have become equal is
+an error too. A step is a console and its words; `{k}` in a word is a prefix of that case alone, so that no case meets the keys of another.
 """
 import socket
 import sys
@@ -64,6 +64,8 @@ WATCHES = [
     ("a counter's key", ["0 WATCH {k}a", "1 INCR {k}n", "0 MULTI", "0 INCR {k}n", "0 EXEC"], "*1\r\n:2\r\n"),
 ]
 
+NOT_INTEGER = "-ERR value is not an integer or out of range\r\n"
+
 # A wrong count is not queued, and what stands around it is not carried out.
 NOT_QUEUED = [
     "SET {k}a", "set {k}a", "SET", "GET", "GET {k}a {k}b", "MSET", "MSET {k}a", "INCR", "INCR {k}a {k}b {k}c", "INCRBY {k}a", "INCRBY {k}a 1 2", "DECR",
@@ -80,8 +82,30 @@ COUNTS = [
     ("a wrong count behind 64 commands", ["0 MULTI"] + ["0 PING"] * 64 + ["0 GET", "0 EXEC"], ABORTED),
     ("a wrong count outside MULTI", ["0 SET {k}a", "0 MULTI", "0 EXEC"], "*0\r\n"),
     ("a wrong count of another console", ["0 MULTI", "0 SET {k}a 1", "1 SET {k}a", "0 EXEC"], "*1\r\n+OK\r\n"),
-    ("an amount that is no number", ["0 MULTI", "0 INCRBY {k}n x", "0 EXEC"], "*1\r\n-ERR value is not an integer or out of range\r\n"),
+    ("an amount that is no number", ["0 MULTI", "0 INCRBY {k}n x", "0 EXEC"], "*1\r\n" + NOT_INTEGER),
     ("MULTI inside MULTI does not mark", ["0 MULTI", "0 MULTI", "0 PING", "0 EXEC"], "*1\r\n+PONG\r\n"),
+]
+
+NUMBERS = [
+    ("0 held", ["0 SET {k}n 0", "0 INCR {k}n"], ":1\r\n"),
+    ("the least number held", ["0 SET {k}n " + MIN, "0 INCR {k}n"], ":-9223372036854775807\r\n"),
+    ("the least number as an amount", ["0 INCRBY {k}n " + MIN, "0 GET {k}n"], "$20\r\n" + MIN + "\r\n"),
+    ("+ held", ["0 SET {k}n +7", "0 INCR {k}n"], NOT_INTEGER),
+    ("+ and leading zeros held", ["0 SET {k}n +007", "0 DECR {k}n"], NOT_INTEGER),
+    ("leading zeros held", ["0 SET {k}n 007", "0 INCRBY {k}n 1"], NOT_INTEGER),
+    ("- and leading zeros held", ["0 SET {k}n -01", "0 INCR {k}n"], NOT_INTEGER),
+    ("-0 held", ["0 SET {k}n -0", "0 INCR {k}n"], NOT_INTEGER),
+    ("two zeros held", ["0 SET {k}n 00", "0 INCR {k}n"], NOT_INTEGER),
+    ("no text held", ["0 SET {k}n ", "0 INCR {k}n"], NOT_INTEGER),
+    ("held inside EXEC", ["0 SET {k}n +7", "0 MULTI", "0 INCR {k}n", "0 GET {k}n", "0 EXEC"], "*2\r\n" + NOT_INTEGER + "$2\r\n+7\r\n"),
+    ("+ in an amount", ["0 INCRBY {k}n +7"], NOT_INTEGER),
+    ("leading zeros in an amount", ["0 INCRBY {k}n 07"], NOT_INTEGER),
+    ("- and leading zeros in an amount", ["0 INCRBY {k}n -01"], NOT_INTEGER),
+    ("-0 as an amount", ["0 INCRBY {k}n -0"], NOT_INTEGER),
+    ("one below the least as an amount", ["0 INCRBY {k}n -9223372036854775809"], NOT_INTEGER),
+    ("+ in COUNT", ["0 SCAN 0 COUNT +1"], NOT_INTEGER),
+    ("leading zeros in COUNT", ["0 SCAN 0 COUNT 01"], NOT_INTEGER),
+    ("-0 as COUNT", ["0 SCAN 0 COUNT -0"], NOT_INTEGER),
 ]
 
 # Name of the difference in the documents or in what they take from the Rust, the steps, and what each side answers to the last step.
@@ -99,9 +123,9 @@ DIFFERENT = [
     ("SET with options is not queued", ["0 MULTI", "0 SET {k}a 1 EX 5"], "-ERR SET options (EX, NX, ...) are not supported\r\n", "+QUEUED\r\n"),
     ("SET with options marks the session", ["0 MULTI", "0 SET {k}a 1 EX 5", "0 EXEC"], ABORTED, "*1\r\n+OK\r\n"),
     ("DEL counts a repeated argument twice", ["0 SET {k}a 1", "0 DEL {k}a {k}a"], ":2\r\n", ":1\r\n"),
-    ("a whole number may have a plus sign", ["0 INCRBY {k}n +7"], ":7\r\n", "-ERR value is not an integer or out of range\r\n"),
-    ("a whole number may have leading zeros", ["0 SET {k}n 007", "0 INCR {k}n"], ":8\r\n", "-ERR value is not an integer or out of range\r\n"),
-    ("-0 is 0", ["0 SET {k}n -0", "0 INCR {k}n"], ":1\r\n", "-ERR value is not an integer or out of range\r\n"),
+    ("SCAN's cursor is a whole number", ["0 SCAN 00 MATCH {k}* COUNT 1000"], "-ERR invalid cursor\r\n", "*2\r\n$1\r\n0\r\n*0\r\n"),
+    ("a length may have a plus sign", ["0 RAW *+1\r\n$4\r\nPING\r\n"], "+PONG\r\n", "-ERR Protocol error: invalid multibulk length\r\n"),
+    ("a length may have leading zeros", ["0 RAW *1\r\n$04\r\nPING\r\n"], "+PONG\r\n", "-ERR Protocol error: invalid bulk length\r\n"),
     ("DEL of an absent key is a write", ["0 WATCH {k}a", "1 DEL {k}a", "0 MULTI", "0 EXEC"], "*-1\r\n", "*0\r\n"),
     ("inline lines have no quoting", ["0 INLINE ECHO 'a'"], "$3\r\n'a'\r\n", "$1\r\na\r\n"),
     ("protocol errors have the Rust's text", ["0 RAW *x\r\n"], "-ERR Protocol error: invalid multibulk length 'x'\r\n", "-ERR Protocol error: invalid multibulk length\r\n"),
@@ -169,7 +193,7 @@ def main():
         for step, ours, theirs in both(station, redis, steps, f"s{i}:"):
             if ours != theirs:
                 sys.exit(f"{steps}, at {step}\n station {ours!r}\n redis   {theirs!r}")
-    for i, (what, steps, due) in enumerate(WATCHES + COUNTS):
+    for i, (what, steps, due) in enumerate(WATCHES + COUNTS + NUMBERS):
         told = both(station, redis, steps, f"w{i}:")
         if any(ours != theirs for _, ours, theirs in told) or told[-1][1] != due.encode():
             sys.exit(f"{what}: due {due!r}, told {told}")
@@ -178,7 +202,7 @@ def main():
         if ours != our_due.encode() or ours == theirs or (their_due is not None and theirs != their_due.encode()):
             sys.exit(f"{why}: {steps}\n station {ours!r}, due {our_due!r}\n redis   {theirs!r}, due {their_due!r}")
         print(f"difference: {why}")
-    print(f"side_by_side.py: {len(SAME) + len(WATCHES) + len(COUNTS)} cases with equal replies, {len(DIFFERENT)} with the differences named")
+    print(f"side_by_side.py: {len(SAME) + len(WATCHES) + len(COUNTS) + len(NUMBERS)} cases with equal replies, {len(DIFFERENT)} with the differences named")
 
 
 main()
