@@ -7,7 +7,7 @@
 
 Input is made without the model and stays in the domain (README.md): each run ends before its commands could write 1,024 versions or
 32,768 bytes. A line is left out if it has an EXEC and behind its session's first WATCH in force came a request that may write, or if it has
-a command inside MULTI that is not queued for its argument count.
+a command inside MULTI that is not queued for its argument count. A value such as `00` may stand in a key that a counter then reads: that ends a run.
 Where the two programs differ all the same, the model decides: a line that leaves the domain ends the run if the model and PROGRAM
 agree up to it, a number included; anything else is a difference, which is shown and shrunk.
 A request counts when the Rust answered it. Empty requests and bytes that wait are sent too and not counted.
