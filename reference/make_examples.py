@@ -2,9 +2,9 @@
 """Writes crates/examples/stdin and crates/examples/stdout.
 
 What is expected is written here, and never comes from the program: the stored requests have the answers of samples/requests.out, the
-readings those of document 01 and, for whole numbers, of R-1, the published examples what the pages print. The Rust's own functions give the
-same on the readings, but for number texts that R-1 refuses and for `too many` and `full`: it lends no argument table and no buffer. The
-published examples were written down from memory, without the pages at hand.
+readings those of the documents, the published examples what the pages print. The Rust's own functions give the same on the readings, but for
+number texts that R-1 refuses, for `too many` and `full`, as it lends no argument table and no buffer, and for `by the end`, which is R-4's.
+The published examples were written down from memory, without the pages at hand.
 
 A record is a byte that tells its kind, three bytes of length, the highest first, and its bytes:
   #      a label: written as it is, in front of the next record's line
@@ -337,14 +337,14 @@ def resp2():
 
 
 def patterns():
-    """The Redis page on KEYS, without brackets; the others are of document 01, section 7, and have the answers of the Rust's `glob`."""
+    """The Redis page on KEYS, without brackets; the others are of document 01, section 7, and of document 02, R-4."""
     keys_page("h?llo", "hello")
     keys_page("h?llo", "hallo")
     keys_page("h?llo", "hxllo")
     glob("h?llo", "hllo", "does not match")
     keys_page("h*llo", "hllo")
     keys_page("h*llo", "heeeello")
-    glob("h*llo", "heeeell", "does not match")
+    glob("h*llo", "heeeell", "does not match, by the end")
     glob("h\\?llo", "h?llo", "matches")
     glob("h\\?llo", "hello", "does not match")
     glob("h\\*llo", "h*llo", "matches")
@@ -352,9 +352,9 @@ def patterns():
     # A star tries the tail one byte further on; a last lone `\` is itself.
     glob("a*b?", "axbbc", "matches")
     glob("a*b?", "axbb", "matches")
-    glob("a*b?", "ab", "does not match")
+    glob("a*b?", "ab", "does not match, by the end")
     glob("*a*b", "aab", "matches")
-    glob("*a*b", "aba", "does not match")
+    glob("*a*b", "aba", "does not match, by the end")
     glob("*", "", "matches")
     glob("?", "", "does not match")
     glob("", "", "matches")
@@ -364,6 +364,21 @@ def patterns():
     glob("\\\\", "\\", "matches")
     glob("h[ae]llo", "hello", "does not match")
     glob("h[ae]llo", "h[ae]llo", "matches")
+    # By the end: there is a wildcard star, and no end of the name matches what follows the last one.
+    glob("b:*07", "b:1007", "matches")
+    glob("b:*07", "b:1008", "does not match, by the end")
+    glob("b:*07", "c:1007", "does not match")
+    glob("a\\*", "b", "does not match")
+    glob("a*", "b", "does not match")
+    glob("*ab", "b", "does not match, by the end")
+    glob("ab*b", "ab", "does not match")
+    glob("a", "b", "does not match")
+    glob("\\*", "x", "does not match")
+    glob("*\\", "a", "does not match, by the end")
+    glob("*\\*", "a", "does not match, by the end")
+    glob("*ab*b", "ab", "does not match")
+    glob("b*a", "c", "does not match, by the end")
+    glob("[*]", "x]", "does not match")
 
 
 FFFD = r"\xef\xbf\xbd"

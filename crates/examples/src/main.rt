@@ -6,18 +6,21 @@ mod replies;
 mod requests;
 
 use libc::STDIN_FILENO;
+use server::pattern::Compared;
 
 // What a pattern answers to a name, which are two records, and the line's end.
 fn pattern(both: &[u8]) {
     let one = records::record_at(both, 0);
     let two = records::record_at(both, one.end);
-    if glob::glob(
+    let answer = glob::compare(
         refusal::part_of(both, one.bytes),
         refusal::part_of(both, two.bytes),
-    ) {
-        return lines::text(b"matches\n");
+    );
+    match answer {
+        Compared::Matches => lines::text(b"matches\n"),
+        Compared::Differs => lines::text(b"does not match\n"),
+        Compared::DiffersByTheEnd => lines::text(b"does not match, by the end\n"),
     }
-    lines::text(b"does not match\n")
 }
 
 // `#` is a label for the line, `?` a pattern and a name, `=` a reply, and a digit a request with so many places.

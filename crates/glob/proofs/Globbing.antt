@@ -16,7 +16,7 @@ use Rattle.server.specs.declared.pattern.Step.the-variants as step
 use Rattle.server.specs.declared.pattern.Walk.{Walk}
 use Rattle.server.specs.declared.pattern.Walk.the-variants as walk
 use Rattle.server.specs.Glob.{Token, literal, one, star, tokenOf, tokens, matches, someTail, glob}
-use Rattle.server.specs.GlobWalk.{TokenAt, Stepped, Reach, here, past-literal, past-one, AtStar, Walked}
+use Rattle.server.specs.GlobWalk.{TokenAt, Stepped, Reach, here, past-literal, past-one, AtStar, Walked, Passed, BytePassed}
 
 -- THE TOKEN AT A PLACE.
 plain : (b : ℕ) (rest : Bytes) → (b ≡ 92 → ⊥) → tokens (b ∷ rest) ≡ tokenOf b ∷ tokens rest
@@ -74,6 +74,21 @@ module _ (p : Bytes) (at : ℕ) where
           ap tokens behind ∙ ap (λ (x : Bytes). tokens (getD p at 0 ∷ x)) n ∙ lone (getD p at 0) e ∙ ap (λ (x : Bytes). literal (getD p at 0) ∷ tokens x) (sym n);
     }
 
+-- A TOKEN AND A BYTE.
+module _ {p : Bytes} (s : Bytes) {at next : ℕ} (used : ℕ) where
+  pub step-one : TokenAt p at next one → used < length s → matches (tokens (drop at p)) (drop used s) ≡ matches (tokens (drop next p)) (drop (used + 1) s)
+  unfolding matches
+  step-one t h = rw (t .is, drop-cons s used 0 h, add-one used)
+
+  module _ {b : ℕ} (t : TokenAt p at next (literal b)) (h : used < length s) where
+    pub step-literal : getD s used 0 ≡ b → matches (tokens (drop at p)) (drop used s) ≡ matches (tokens (drop next p)) (drop (used + 1) s)
+    unfolding matches
+    step-literal e = rw (t .is, drop-cons s used 0 h, matches, eq-eqb (getD s used 0) b e, add-one used)
+
+    pub step-other : (getD s used 0 ≡ b → ⊥) → matches (tokens (drop at p)) (drop used s) ≡ false
+    unfolding matches
+    step-other ne = rw (t .is, drop-cons s used 0 h, matches, ne-eqb (getD s used 0) b ne)
+
 -- ALONG A NAME: the pattern up to `at`, without a star, has matched the name up to `used`.
 pub record Walking (p s : Bytes) (at used : ℕ) : Type 0 where
   pub within : at ≤ length p
@@ -89,7 +104,7 @@ walking-none p s = record {
   reach = λ m q r. subst (λ (n : ℕ). Reach (tokens p) n q) (omega arith) r;
 }
 
-star-tails : (p : List Token) (s : Bytes) → matches (star ∷ p) s ≡ someTail (matches p) s
+pub star-tails : (p : List Token) (s : Bytes) → matches (star ∷ p) s ≡ someTail (matches p) s
 unfolding matches someTail
 star-tails p [] = refl
 star-tails p (b ∷ s) = refl
@@ -124,30 +139,30 @@ module _ {p s : Bytes} {at used : ℕ} (k : Walking p s at used) where
     literal-short t h = k .rest ∙ rw (t .is, drop-of-length-le s {i = used} h)
 
     pub literal-other : {b : ℕ} → TokenAt p at next (literal b) → used < length s → (getD s used 0 ≡ b → ⊥) → matches (tokens p) s ≡ false
-    unfolding matches
-    literal-other {b} t h ne = k .rest ∙ rw (t .is, drop-cons s used 0 h, matches, ne-eqb (getD s used 0) b ne)
+    literal-other t h ne = k .rest ∙ step-other s used t h ne
 
     pub one-more : TokenAt p at next one → used < length s → Walking p s next (used + 1)
-    unfolding matches
     one-more t h = record {
       within = t .within;
       inside = omega arith;
-      rest = k .rest ∙ rw (t .is, drop-cons s used 0 h, add-one used);
+      rest = k .rest ∙ step-one s used t h;
       reach = λ m q r. subst (λ (n : ℕ). Reach (tokens p) n q) (omega arith)
           (k .reach (suc m) q (subst (λ (l : List Token). Reach l (suc m) q) (sym (t .is)) (past-one r)));
     }
 
     pub literal-more : {b : ℕ} → TokenAt p at next (literal b) → used < length s → getD s used 0 ≡ b → Walking p s next (used + 1)
-    unfolding matches
-    literal-more {b} t h e = record {
+    literal-more t h e = record {
       within = t .within;
       inside = omega arith;
-      rest = k .rest ∙ rw (t .is, drop-cons s used 0 h, matches, eq-eqb (getD s used 0) b e, add-one used);
+      rest = k .rest ∙ step-literal s used t h e;
       reach = λ m q r. subst (λ (n : ℕ). Reach (tokens p) n q) (omega arith)
           (k .reach (suc m) q (subst (λ (l : List Token). Reach l (suc m) q) (sym (t .is)) (past-literal r)));
     }
 
 -- TAILS.
+from-here : (s : Bytes) (i : ℕ) → i < length s → drop i s ≡ getD s i 0 ∷ drop (i + 1) s
+from-here s i h = drop-cons s i 0 h ∙ ap (λ (n : ℕ). getD s i 0 ∷ drop n s) (sym (add-one i))
+
 module _ (f : Bytes → Bool) where
   pub tail-first : (s : Bytes) → f s ≡ true → someTail f s ≡ true
   unfolding someTail
@@ -203,28 +218,28 @@ last-star {t} {m} {rest} r s e = go (someTail (matches rest) (drop m s)) refl
         ∙ no-tail-behind (matches rest) (drop m s) k q))
         ∙ sym q
 
--- THE RETRY: `at` is the place behind the last star, `from` its current place in the name.
-pub record Retrying (p s : Bytes) (at from : ℕ) : Type 0 where
+-- THE RETRY: the first star stands before `start` and `first`; `at` is the place behind the last one passed, `from` its current place in the name.
+pub record Retrying (p s : Bytes) (start first at from : ℕ) : Type 0 where
   pub within : at ≤ length p
   pub inside : from ≤ length s
-  pub rest : someTail (matches (tokens p)) s ≡ someTail (matches (tokens (drop at p))) (drop from s)
+  pub rest : someTail (matches (tokens (drop start p))) (drop first s) ≡ someTail (matches (tokens (drop at p))) (drop from s)
 
-pub retrying-none : (p s : Bytes) → Retrying p s 0 0
-retrying-none p s = record { within = omega arith; inside = omega arith; rest = refl }
+pub retrying-none : (p s : Bytes) (start first : ℕ) → start ≤ length p → first ≤ length s → Retrying p s start first start first
+retrying-none p s start first h i = record { within = h; inside = i; rest = refl }
 
-module _ {p s : Bytes} {at from : ℕ} (r : Retrying p s at from) where
-  pub retry-whole : matches (tokens (drop at p)) (drop from s) ≡ true → true ≡ someTail (matches (tokens p)) s
+module _ {p s : Bytes} {start first at from : ℕ} (r : Retrying p s start first at from) where
+  pub retry-whole : matches (tokens (drop at p)) (drop from s) ≡ true → true ≡ someTail (matches (tokens (drop start p))) (drop first s)
   retry-whole e = sym (r .rest ∙ tail-first (matches (tokens (drop at p))) (drop from s) e)
 
-  pub retry-end : matches (tokens (drop at p)) (drop from s) ≡ false → length s ≤ from → false ≡ someTail (matches (tokens p)) s
+  pub retry-end : matches (tokens (drop at p)) (drop from s) ≡ false → length s ≤ from → false ≡ someTail (matches (tokens (drop start p))) (drop first s)
   unfolding someTail
   retry-end e h =
       let n : drop from s ≡ [] = drop-of-length-le s {i = from} h in
       sym (r .rest ∙ ap (someTail (matches (tokens (drop at p)))) n ∙ ap (matches (tokens (drop at p))) (sym n) ∙ e)
 
-  pub retry-next : matches (tokens (drop at p)) (drop from s) ≡ false → from < length s → Retrying p s at (from + 1)
+  pub retry-next : matches (tokens (drop at p)) (drop from s) ≡ false → from < length s → Retrying p s start first at (from + 1)
   retry-next e h =
-      let d : drop from s ≡ getD s from 0 ∷ drop (from + 1) s = drop-cons s from 0 h ∙ ap (λ (n : ℕ). getD s from 0 ∷ drop n s) (sym (add-one from)) in
+      let d = from-here s from h in
       record {
         within = r .within;
         inside = omega arith;
@@ -239,7 +254,7 @@ module _ {p s : Bytes} {at from : ℕ} (r : Retrying p s at from) where
       let v : used ≤ length s - from = rw length-drop at (a .inside) in
       (a .forward, omega (arith, r .within), omega (arith, r .inside))
 
-  pub retry-star : {next used : ℕ} → AtStar (drop at p) (drop from s) next used → Retrying p s (at + next) (from + used)
+  pub retry-star : {next used : ℕ} → AtStar (drop at p) (drop from s) next used → Retrying p s start first (at + next) (from + used)
   retry-star {next} {used} a =
       let u : next ≤ length p - at = rw length-drop at (a .within) in
       let v : used ≤ length s - from = rw length-drop at (a .inside) in
@@ -250,6 +265,36 @@ module _ {p s : Bytes} {at from : ℕ} (r : Retrying p s at from) where
             r .rest ∙ last-star (a .reach) (drop from s) (a .rest)
             ∙ (λ z. someTail (matches (tokens (drop-drop next at p z))) (drop-drop used from s z));
       }
+
+-- PLACES THAT NEED NO TRY: the token is a byte, and the name has another there.
+pub passed-none : (t : List Token) (s : Bytes) (from : ℕ) → from ≤ length s → Passed t s from from
+passed-none t s from h = record { forward = omega arith; inside = h; rest = refl }
+
+pub byte-passed-none : (s : Bytes) (b from : ℕ) → from ≤ length s → BytePassed s b from from
+byte-passed-none s b from h = record { forward = omega arith; inside = h; rest = λ t. refl }
+
+other-byte : (b : ℕ) (t : List Token) (c : ℕ) (s : Bytes) → (c ≡ b → ⊥) → matches (literal b ∷ t) (c ∷ s) ≡ false
+unfolding matches
+other-byte b t c s ne = rw (matches, ne-eqb c b ne)
+
+pub byte-passed-more : {s : Bytes} {b from i : ℕ} → BytePassed s b from i → i < length s → (getD s i 0 ≡ b → ⊥) → BytePassed s b from (i + 1)
+byte-passed-more {s} {b} {from} {i} k h ne = record {
+  forward = omega (arith, k .forward);
+  inside = omega arith;
+  rest = λ t.
+      k .rest t ∙ ap (someTail (matches (literal b ∷ t))) (from-here s i h)
+      ∙ tail-next (matches (literal b ∷ t)) (getD s i 0) (drop (i + 1) s) (other-byte b t (getD s i 0) (drop (i + 1) s) ne);
+}
+
+pub byte-passed : {p s : Bytes} {at next b from i : ℕ} → TokenAt p at next (literal b) → BytePassed s b from i → Passed (tokens (drop at p)) s from i
+byte-passed {p} {s} {at} {next} {b} {from} {i} a k = record {
+  forward = k .forward;
+  inside = k .inside;
+  rest = subst (λ (t : List Token). someTail (matches t) (drop from s) ≡ someTail (matches t) (drop i s)) (sym (a .is)) (k .rest (tokens (drop next p)));
+}
+
+pub retry-passed : {p s : Bytes} {start first at from i : ℕ} → Retrying p s start first at from → Passed (tokens (drop at p)) s from i → Retrying p s start first at i
+retry-passed r k = record { within = r .within; inside = k .inside; rest = r .rest ∙ k .rest }
 
 -- WHAT EACH ANSWER SAYS.
 pub walked-whole : (p s : Bytes) {w : Walk} → Walked p s w → w ≡ walk.Whole → matches (tokens p) s ≡ true
@@ -262,7 +307,7 @@ pub walked-star : (p s : Bytes) {w : Walk} {next used : ℕ} → Walked p s w �
 walked-star p s a e = subst (Walked p s) e a
 
 -- a lent tail is what is left from its place on
-pub tail-is : {A : Type 0} (at : ℕ) (l : List A) → take (length l - at) (drop at l) ≡ drop at l
+tail-is : {A : Type 0} (at : ℕ) (l : List A) → take (length l - at) (drop at l) ≡ drop at l
 tail-is at l = take-all (length l - at) (drop at l) (rw length-drop (omega arith))
 
 module _ (p s : Bytes) (at from : ℕ) where
@@ -289,10 +334,9 @@ module _ (p s : Bytes) where
   unfolding glob
   glob-fails a e = sym (walked-fails p s a e)
 
-  pub glob-star : {next used : ℕ} {b : Bool} → AtStar p s next used
-      → b ≡ someTail (matches (tokens (take (length p - next) (drop next p)))) (take (length s - used) (drop used s)) → b ≡ glob p s
+  pub glob-star : {next used : ℕ} {b : Bool} → AtStar p s next used → b ≡ someTail (matches (tokens (drop next p))) (drop used s) → b ≡ glob p s
   unfolding glob
-  glob-star {next} {used} a e = e ∙ (λ z. someTail (matches (tokens (tail-is next p z))) (tail-is used s z)) ∙ sym (a .rest)
+  glob-star a e = e ∙ sym (a .rest)
 
 pub stepped-star : (p : Bytes) (at : ℕ) {t : Step} {next : ℕ} → Stepped p at t → t ≡ step.Star next → TokenAt p at next star
 stepped-star p at a e = subst (Stepped p at) e a

@@ -47,14 +47,14 @@ one-at-most true e = omega arith
 one-at-most false e = omega arith
 
 -- one or none, by the test
-module _ (t : Bool) {r : Bool} (is : r ≡ t) where
-  pub one-true : r ≡ true → 1 ≡ oneIf t
+module _ (t : Bool) where
+  pub one-true : true ≡ t → 1 ≡ oneIf t
   unfolding oneIf
-  one-true e = ap oneIf (sym e ∙ is)
+  one-true e = ap oneIf e
 
-  pub one-false : r ≡ false → 0 ≡ oneIf t
+  pub one-false : false ≡ t → 0 ≡ oneIf t
   unfolding oneIf
-  one-false e = ap oneIf (sym e ∙ is)
+  one-false e = ap oneIf e
 
 -- the matching ones among the first n are the first of the matching ones
 matching-take : (p : Bytes) (n : ℕ) (t : Table) → take (length (matching p (take n t))) (matching p t) ≡ matching p (take n t)

@@ -3,6 +3,8 @@ use encode::reply;
 use memtable::Found;
 use memtable::live;
 use memtable::read;
+use server::pattern::Compared;
+use server::pattern::Last;
 use writing::Put;
 ghost use mathlib.Core.Path.{_≡_};
 ghost use Prim.Native.Nat.{_≤_};
@@ -13,6 +15,7 @@ ghost use Rattle.memtable.specs.Versions.{table};
 ghost use Rattle.memtable.specs.Rows.{Valid, versionsIn};
 ghost use Rattle.server.specs.Command.{KEYS, answerListing};
 ghost use Rattle.server.specs.Glob.{glob};
+ghost use Rattle.server.specs.GlobWalk.{LastStar};
 ghost use Rattle.listing.specs.Rest.{rest, matching, keysReply, oneIf, SeenFrom};
 
 // What a walk saw: how many keys match, and the place where it stopped.
@@ -21,16 +24,31 @@ pub struct Seen {
     pub next: usize,
 }
 
-// 1 where the key `name` matches, else 0.
-fn one_if_matching(pattern: &[u8], name: &[u8]) -> u64
+// 1 where the key `name` matches, else 0. Counting asks `compare_with` and writing asks `glob`: each has one caller in the registry, so that the
+// compiler puts both into their loops.
+fn one_if_matching(pattern: &[u8], behind: usize, count: usize, name: &[u8]) -> u64
+    requires { ⌜ LastStar (now pattern) behind count ⌝ }
     ensures { λ r. ⌜ r ≡ oneIf (glob (now (pattern .entry)) (now (name .entry))) ⌝ }
 {
-    if glob::glob(pattern, name) { 1 } else { 0 }
+    let answer = glob::compare_with(pattern, behind, count, name);
+    match answer {
+        Compared::Matches => 1,
+        Compared::Differs => 0,
+        Compared::DiffersByTheEnd => 0,
+    }
 }
 
 // Counts the matching keys among the first `most` entries from `from` on.
-pub fn count_matches(words: &[u64], bytes: &[u8], pattern: &[u8], from: usize, most: u64) -> Seen
+pub fn count_matches(
+    words: &[u64],
+    bytes: &[u8],
+    pattern: &[u8],
+    last: Last,
+    from: usize,
+    most: u64,
+) -> Seen
     requires { ⌜ Valid (now words) (now bytes) ⌝ }
+    requires { ⌜ LastStar (now pattern) (last .behind) (last .count) ⌝ }
     ensures { λ r. ⌜ SeenFrom (now (words .entry)) (now (bytes .entry)) (now (pattern .entry)) from most (r .matched) (r .next) ⌝ }
 {
     let mut i = from;
@@ -41,7 +59,12 @@ pub fn count_matches(words: &[u64], bytes: &[u8], pattern: &[u8], from: usize, m
         match found {
             Found::Nothing => return Seen { matched, next: i },
             Found::At(j) => {
-                matched += one_if_matching(pattern, read::key_of(words, bytes, j));
+                matched += one_if_matching(
+                    pattern,
+                    last.behind,
+                    last.count,
+                    read::key_of(words, bytes, j),
+                );
                 i = j + 1;
                 left -= 1;
             }
@@ -56,10 +79,12 @@ pub fn put_matches(
     words: &[u64],
     bytes: &[u8],
     pattern: &[u8],
+    last: Last,
     from: usize,
     count: u64,
 ) -> Put
     requires { ⌜ Valid (now words) (now bytes) ⌝ }
+    requires { ⌜ LastStar (now pattern) (last .behind) (last .count) ⌝ }
     requires { ⌜ count ≤ length (matching (now pattern) (rest (now words) (now bytes) from)) ⌝ }
     ensures { λ r. ⌜ Puts (encode (keysReply (take count (matching (now (pattern .entry)) (rest (now (words .entry)) (now (bytes .entry)) from))))) (now (out .entry)) r (now (out .exit)) ⌝ }
 {
@@ -72,7 +97,7 @@ pub fn put_matches(
             Found::Nothing => return put,
             Found::At(j) => {
                 let name = read::key_of(words, bytes, j);
-                if glob::glob(pattern, name) {
+                if glob::glob(pattern, last.behind, last.count, name) {
                     put = items::then_bulk(out, put, name);
                     i = j + 1;
                     left -= 1;
@@ -90,6 +115,7 @@ pub fn put_keys(out: &mut [u8], words: &[u64], bytes: &[u8], pattern: &[u8]) -> 
     requires { ⌜ Valid (now words) (now bytes) ⌝ }
     ensures { λ r. ⌜ Puts (encode (answerListing (table (versionsIn (now (words .entry)) (now (bytes .entry)))) (KEYS (now (pattern .entry))))) (now (out .entry)) r (now (out .exit)) ⌝ }
 {
-    let seen = count_matches(words, bytes, pattern, 0, words[0]);
-    put_matches(out, words, bytes, pattern, 0, seen.matched)
+    let last = glob::last_star(pattern);
+    let seen = count_matches(words, bytes, pattern, last, 0, words[0]);
+    put_matches(out, words, bytes, pattern, last, 0, seen.matched)
 }

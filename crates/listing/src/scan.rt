@@ -3,6 +3,7 @@ use crate::keys;
 use encode::reply;
 use memtable::Found;
 use memtable::live;
+use server::pattern::Last;
 use writing::Put;
 ghost use mathlib.Core.Path.{_≡_};
 ghost use Prim.Native.Nat.{_+_, _≤_};
@@ -12,6 +13,7 @@ ghost use Rattle.resp.specs.Reply.{encode};
 ghost use Rattle.memtable.specs.Versions.{table};
 ghost use Rattle.memtable.specs.Rows.{Valid, versionsIn};
 ghost use Rattle.server.specs.Command.{SCAN, answerListing};
+ghost use Rattle.server.specs.GlobWalk.{LastStar};
 ghost use Rattle.listing.specs.Rest.{rest, matching, keysReply, cursorBefore};
 
 // The place behind the first `count` entries.
@@ -54,15 +56,17 @@ fn then_matches(
     words: &[u64],
     bytes: &[u8],
     pattern: &[u8],
+    last: Last,
     from: usize,
     count: u64,
 ) -> Put
     requires { ⌜ Valid (now words) (now bytes) ⌝ }
+    requires { ⌜ LastStar (now pattern) (last .behind) (last .count) ⌝ }
     requires { ⌜ count ≤ length (matching (now pattern) (rest (now words) (now bytes) from)) ⌝ }
     ensures { λ r. ⌜ Adds (encode (keysReply (take count (matching (now (pattern .entry)) (rest (now (words .entry)) (now (bytes .entry)) from))))) put (now (out .entry)) r (now (out .exit)) ⌝ }
 {
     let at = writing::place(put, out.len());
-    let next = keys::put_matches(&mut out[at..], words, bytes, pattern, from, count);
+    let next = keys::put_matches(&mut out[at..], words, bytes, pattern, last, from, count);
     writing::joined(out, put, next)
 }
 
@@ -78,10 +82,11 @@ pub fn put_scan(
     requires { ⌜ Valid (now words) (now bytes) ⌝ }
     ensures { λ r. ⌜ Puts (encode (answerListing (table (versionsIn (now (words .entry)) (now (bytes .entry)))) (SCAN from (now (pattern .entry)) most))) (now (out .entry)) r (now (out .exit)) ⌝ }
 {
+    let last = glob::last_star(pattern);
     let at = skip(words, bytes, from);
-    let seen = keys::count_matches(words, bytes, pattern, at, most);
+    let seen = keys::count_matches(words, bytes, pattern, last, at, most);
     let follows = cursor(words, bytes, seen.next, from, most);
     let head = reply::put_head(out, b'*', 2);
     let line = items::then_bulk_digits(out, head, follows);
-    then_matches(out, line, words, bytes, pattern, at, seen.matched)
+    then_matches(out, line, words, bytes, pattern, last, at, seen.matched)
 }

@@ -7,10 +7,10 @@ use Rattle.listing.proofs.keys.count_matches.Statement.{statement}
 use Rattle.listing.proofs.keys.count_matches.Tie as tie
 
 abbrev Inv-loop : tie.InvT-loop
-Inv-loop words bytes pattern from most i₀ left₀ matched₀ i left matched = Looking words bytes pattern from most i left matched
+Inv-loop words bytes pattern last from most i₀ left₀ matched₀ i left matched = Looking words bytes pattern from most i left matched
 
 abbrev μ-loop : tie.MeasureT-loop
-μ-loop words bytes pattern from most i₀ left₀ matched₀ i left matched = left
+μ-loop words bytes pattern last from most i₀ left₀ matched₀ i left matched = left
 
 loop-holds : tie.Need-loop-holds Inv-loop μ-loop
 loop-holds c = looking-none _ _ _ _ _

@@ -7,11 +7,14 @@ use Rattle.listing.proofs.keys.put_keys.Tie as tie
 shared-slice-read-count-matches : tie.Need-shared-slice-read-count-matches
 shared-slice-read-count-matches c = search needs
 
+last-star-requires : tie.Need-last-star-requires
+last-star-requires c κs = search needs
+
 count-matches-requires : tie.Need-count-matches-requires
 count-matches-requires c κs = search needs
 
 put-matches-requires : tie.Need-put-matches-requires
-put-matches-requires c κs = search seen-fits
+put-matches-requires c κs = (search needs, (search needs, search seen-fits))
 
 same-length : tie.Need-same-length
 same-length c = search needs
@@ -23,6 +26,7 @@ pub put-keys-spec : {M : Type 1} → statement M
 put-keys-spec =
     tie.close
     (tie.spec
+    last-star-requires
     shared-slice-read-count-matches
     count-matches-requires
     put-matches-requires

@@ -10,10 +10,10 @@ use Rattle.listing.proofs.keys.put_matches.Statement.{statement}
 use Rattle.listing.proofs.keys.put_matches.Tie as tie
 
 abbrev Inv-loop : tie.InvT-loop
-Inv-loop out₀ words bytes pattern from count put₀ i₀ left₀ out put i left = Writing words bytes pattern from count i left put₀ out₀ put out
+Inv-loop out₀ words bytes pattern last from count put₀ i₀ left₀ out put i left = Writing words bytes pattern from count i left put₀ out₀ put out
 
 abbrev μ-loop : tie.MeasureT-loop
-μ-loop out₀ words bytes pattern from count put₀ i₀ left₀ out put i left = countWord words - i
+μ-loop out₀ words bytes pattern last from count put₀ i₀ left₀ out put i left = countWord words - i
 
 put-head-requires : tie.Need-put-head-requires Inv-loop μ-loop
 put-head-requires c κs = search needs

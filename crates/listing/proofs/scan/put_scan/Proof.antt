@@ -5,6 +5,9 @@ use borrow.Author.Needs.{needs}
 use Rattle.listing.proofs.scan.put_scan.Statement.{statement}
 use Rattle.listing.proofs.scan.put_scan.Tie as tie
 
+last-star-requires : tie.Need-last-star-requires
+last-star-requires c κs = search needs
+
 skip-requires : tie.Need-skip-requires
 skip-requires c κs = search needs
 
@@ -21,18 +24,19 @@ then-bulk-digits-requires : tie.Need-then-bulk-digits-requires
 then-bulk-digits-requires c κs = search needs
 
 then-matches-requires : tie.Need-then-matches-requires
-then-matches-requires c κs = search seen-fits
+then-matches-requires c κs = (search needs, (search needs, search seen-fits))
 
 same-length : tie.Need-same-length
 same-length c = search needs
 
 returns : tie.Need-returns
-returns c = search scan-answer
+returns c = scan-answer _ _ _ _ _ (c .before .before .before .before .before .before .before .before .before .before .before .before .before .before .before .before .before .before .before .before .pre) (c .before .before .before .before .before .before .before .before .before .before .before .before .before .before .skip .ensures) (c .before .before .before .before .before .before .before .before .before .before .before .before .before .count-matches .ensures) (c .before .before .before .before .before .before .before .before .before .before .before .before .cursor .ensures) (c .before .before .before .before .before .before .before .before .before .before .put-head .ensures) (c .before .before .before .before .before .before .then-bulk-digits .ensures) (c .before .before .then-matches .ensures)
 
 pub put-scan-spec : {M : Type 1} → statement M
 put-scan-spec =
     tie.close
     (tie.spec
+    last-star-requires
     skip-requires
     count-matches-requires
     cursor-requires
