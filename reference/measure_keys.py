@@ -1,5 +1,5 @@
 #!/usr/bin/env python3
-"""Measures KEYS over 1,024 names that differ in their last bytes, and writes a table in Markdown: microseconds and instructions of a KEYS.
+"""Measures KEYS over 1,024 names that differ in or near their last bytes, and writes a table in Markdown: microseconds and instructions of a KEYS.
 
     measure_keys.py BEFORE AFTER STATION       two programs `frames`, and the server of station/; redis-server is taken from the path
 
@@ -24,7 +24,7 @@ KEYS = 10000
 COUNTED = 20
 AT_ONCE = 200
 ROUNDS = 9
-SHORT, LONG = b"b:%04d", b"b:desk:console:north:%04d"
+SHORT, LONG, ENDING = b"b:%04d", b"b:desk:console:north:%04d", b"b:%04dx"
 ROWS = [
     (SHORT, b"b:*07"),
     (SHORT, b"*x*07"),
@@ -36,6 +36,8 @@ ROWS = [
     (SHORT, b"*"),
     (SHORT, b"b:*"),
     (SHORT, b"*5*"),
+    (SHORT, b"c:*"),
+    (ENDING, b"c:*x"),
 ]
 
 

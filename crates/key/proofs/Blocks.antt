@@ -1,19 +1,19 @@
 -- Laws of the blocks of eight bytes in which keys are compared. Assumes nothing.
-use Prim.Native.Nat.{ℕ, suc, _+_, _-_, _*_, _≤_, _<_}
+use Prim.Native.Nat.{ℕ, suc, _+_, _-_, _*_, _%_, _≤_, _<_}
 use native.Mathlib.Numerals.{add-one}
 use mathlib.Core.Path.{_≡_, refl, sym, ap, _∙_}
 use mathlib.Core.List.{List, _∷_, _++_}
 use mathlib.Core.Bool.{Bool, true, false}
 use lib.Dec.{eqb}
-use lib.ListN.{length, drop, getD, take-append-drop}
-use lib.Seq.{drop-cons, drop-drop}
+use lib.ListN.{length, take, drop, getD, take-append-drop}
+use lib.Seq.{drop-cons, drop-drop, drop-length}
 use borrow.Author.Tests.{eq-eqb, ne-eqb}
 use native.Mathlib.Omega.{arith}
 use Rattle.key.specs.Bytes.{sameBytes, part}
 use Rattle.key.specs.Blocks.{Alike, FourAt, EightAt, sameBlock}
-use Rattle.key.specs.Keys.{compareKeys}
+use Rattle.key.specs.Keys.{compareKeys, sameKey}
 use Rattle.key.proofs.Bytes.{neither}
-use Rattle.key.proofs.Keys.{compare-front, same-is, same-refl, same-bytes}
+use Rattle.key.proofs.Keys.{compare-front, same-is, same-refl, same-bytes, same-list, other-list}
 
 -- THE BYTES OF A BLOCK
 part-next : (l : List ℕ) (i j n : ℕ) → i + 1 ≡ j → i < length l → part i (suc n) l ≡ getD l i 0 ∷ part j n l
@@ -49,6 +49,14 @@ module _ {a b : List ℕ} {i x y : ℕ} (h : i + 4 ≤ length a) (k : i + 4 ≤ 
 four-small : {l : List ℕ} {j x : ℕ} → FourAt l j x → x < 4294967296
 four-small p = omega (arith, p .is, p .first, p .second, p .third, p .fourth)
 
+-- a list is the block at i, and what follows
+block-first : (l : List ℕ) (i : ℕ) → drop i l ≡ part i 8 l ++ drop (i + 8) l
+block-first l i = sym (take-append-drop 8 (drop i l)) ∙ ap (λ (m : List ℕ). part i 8 l ++ m) (drop-drop 8 i l)
+
+block-is : (a b : List ℕ) (i : ℕ) {r : Bool} → r ≡ sameBlock a b i → r ≡ true → part i 8 a ≡ part i 8 b
+unfolding sameBlock
+block-is a b i e t = same-is _ _ (sym (same-bytes _ _) ∙ sym e ∙ t)
+
 module _ {a b : List ℕ} {i : ℕ} where
   module _ {x y : ℕ} (h : i + 8 ≤ length a) (k : i + 8 ≤ length b) (p : EightAt a i x) (q : EightAt b i y) where
     eight-parts : x ≡ y → part i 8 a ≡ part i 8 b
@@ -76,12 +84,55 @@ module _ {a b : List ℕ} {i : ℕ} where
 
   -- the same eight bytes more
   pub alike-block : {r : Bool} → r ≡ sameBlock a b i → r ≡ true → Alike a b i → 8 ≤ length a - i → 8 ≤ length b - i → Alike a b (i + 8)
-  unfolding sameBlock
   alike-block e t al h k =
-      let f : part i 8 a ≡ part i 8 b = same-is _ _ (sym (same-bytes _ _) ∙ sym e ∙ t) in
-      let here : (l : List ℕ) → drop i l ≡ part i 8 l ++ drop (i + 8) l = λ (l : List ℕ). sym (take-append-drop 8 (drop i l)) ∙ ap (λ (m : List ℕ). part i 8 l ++ m) (drop-drop 8 i l) in
       record {
         in-a = omega (arith, al .in-a);
         in-b = omega (arith, al .in-b);
-        rest = al .rest ∙ (λ z. compareKeys (here a z) ((here b ∙ ap (λ (m : List ℕ). m ++ drop (i + 8) b) (sym f)) z)) ∙ compare-front (part i 8 a) (drop (i + 8) a) (drop (i + 8) b);
+        rest = al .rest ∙ (λ z. compareKeys (block-first a i z) ((block-first b i ∙ ap (λ (m : List ℕ). m ++ drop (i + 8) b) (sym (block-is a b i e t))) z)) ∙ compare-front (part i 8 a) (drop (i + 8) a) (drop (i + 8) b);
       }
+
+-- A WALK OVER THE WHOLE BLOCKS AT THE END OF TWO KEYS, from the last one on: from i on they are the same
+pub record BlocksSame (a b : List ℕ) (i : ℕ) : Type 0 where
+  pub inside : i ≤ length a
+  pub whole : i % 8 ≡ length a % 8
+  pub rest : drop i a ≡ drop i b
+
+module _ {a b : List ℕ} where
+  pub blocks-none : length a ≡ length b → BlocksSame a b (length a)
+  blocks-none e = record { inside = omega arith; whole = refl; rest = drop-length a ∙ sym (ap (λ (n : ℕ). drop n b) e ∙ drop-length b) }
+
+  module _ {i : ℕ} (s : BlocksSame a b i) where
+    module _ {r : Bool} (is : r ≡ sameBlock a b (i - 8)) (h : 8 ≤ i) where
+      -- the block before is the same
+      pub blocks-more : r ≡ true → BlocksSame a b (i - 8)
+      blocks-more t =
+          let n : i - 8 + 8 ≡ i = omega arith in
+          let behind : drop (i - 8 + 8) a ≡ drop (i - 8 + 8) b = ap (λ (x : ℕ). drop x a) n ∙ s .rest ∙ ap (λ (x : ℕ). drop x b) (sym n) in
+          record {
+            inside = omega (arith, s .inside);
+            whole = omega (arith, s .whole);
+            rest = block-first a (i - 8) ∙ (λ z. block-is a b (i - 8) is t z ++ behind z) ∙ sym (block-first b (i - 8));
+          }
+
+      pub blocks-other : r ≡ false → false ≡ sameKey (drop (length a % 8) a) (drop (length a % 8) b)
+      unfolding sameBlock
+      blocks-other f = other-list _ _ differ
+        where
+          start : ℕ
+          start = length a % 8
+
+          from : start + (i - 8 - start) ≡ i - 8
+          from = omega (arith, s .whole)
+
+          there : (l : List ℕ) → drop (i - 8 - start) (drop start l) ≡ drop (i - 8) l
+          there l = drop-drop (i - 8 - start) start l ∙ ap (λ (n : ℕ). drop n l) from
+
+          differ : drop start a ≡ drop start b → ⊥
+          differ e =
+              let p : part (i - 8) 8 a ≡ part (i - 8) 8 b = ap (take 8) (sym (there a) ∙ ap (drop (i - 8 - start)) e ∙ there b) in
+              neither (same-bytes _ _ ∙ sym (same-list p)) (sym is ∙ f)
+
+    pub blocks-all : i < 8 → true ≡ sameKey (drop (length a % 8) a) (drop (length a % 8) b)
+    blocks-all h =
+        let e : length a % 8 ≡ i = omega (arith, s .whole) in
+        same-list (ap (λ (x : ℕ). drop x a) e ∙ s .rest ∙ ap (λ (x : ℕ). drop x b) (sym e))
