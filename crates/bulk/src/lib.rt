@@ -34,7 +34,7 @@ fn begins_with(s: &[u8], text: &[u8]) -> bool
 }
 
 // Reads the n bytes of an argument, from `at` on, and the CR LF behind them.
-fn read_body(input: &[u8], at: usize, n: usize) -> Argument
+pub fn read_body(input: &[u8], at: usize, n: usize) -> Argument
     requires { ⌜ Inside (now input) at ⌝ }
     ensures { λ r. ⌜ ArgumentIs (argumentOfSize at n (now (input .entry))) (now (input .entry)) r ⌝ }
 {
