@@ -5,8 +5,8 @@
  * every buffer gives a defined answer.
  *
  * NUMBERS. 0 is success. With any other number nothing was used, no reply and no verdict was written, and all lent memory is as it
- * was, but for the reply buffer, which is zero, the mark of number 4, and the argument table, which is working memory: 1 and 9 leave it,
- * any other number may have changed it. Of several that apply, the first in the order 1, 9, 8, 2, 4, 5, 6, 7, 3 is returned.
+ * was, but for the reply buffer and the item table, which are zero, the mark of number 4, and the argument table, which is working memory:
+ * 1 and 9 leave it, any other number may have changed it. Of several that apply, the first in the order 1, 9, 8, 2, 4, 5, 6, 7, 3 is returned.
  *
  *   1  session above 15
  *   2  more arguments than the argument table has places
@@ -17,6 +17,11 @@
  *   7  last sequence plus writes above 2^64 - 1
  *   8  group above 64 members, verdict bytes fewer than members, or a part outside its buffer
  *   9  lent memory that is not a store and sixteen sessions; at opening, capacities that the buffers do not hold
+ *
+ * registry_read_reply alone returns
+ *
+ *  11  the item table has no place for an item
+ *  12  arrays nest deeper than 8
  *
  * STORE. `words` has 5 + 4 * versions words, `bytes` has the capacity in bytes; longer buffers are allowed, and what lies behind the
  * capacities is never touched. Written by registry_open, then by the other calls only.
@@ -49,6 +54,26 @@ extern "C" {
 #define REGISTRY_NO_ROOM 6
 #define REGISTRY_NO_SEQUENCE 7
 #define REGISTRY_NOT_TAKEN 255
+
+/* Words of an item table for replies of so many items. */
+#define REGISTRY_ITEM_WORDS(items) (4 * (items))
+/* How deep arrays may nest in a reply: the outermost is 1. */
+#define REGISTRY_DEPTH 8
+
+/* What the bytes of a reply are. */
+#define REGISTRY_WAIT 0
+#define REGISTRY_WHOLE 1
+#define REGISTRY_FAULT 2
+#define REGISTRY_REFUSED 3
+
+/* The kinds of items in a reply. */
+#define REGISTRY_SIMPLE 1
+#define REGISTRY_ERROR 2
+#define REGISTRY_INTEGER 3
+#define REGISTRY_BULK 4
+#define REGISTRY_NIL 5
+#define REGISTRY_NIL_ARRAY 6
+#define REGISTRY_ARRAY 7
 
 /* What a request returns. */
 typedef struct {
@@ -85,6 +110,15 @@ typedef struct {
     size_t value_start;  /* its value in the store's bytes */
     size_t value_size;
 } registry_entry;
+
+/* What the reader of replies returns. */
+typedef struct {
+    uint64_t number; /* 0, 11 or 12 */
+    uint64_t state;  /* REGISTRY_WAIT, REGISTRY_WHOLE or REGISTRY_FAULT; REGISTRY_REFUSED with 11 or 12 */
+    size_t used;     /* bytes of a whole reply, else 0 */
+    size_t items;    /* items of a whole reply, else 0 */
+    size_t offset;   /* of a fault, the offset of its item, else 0 */
+} registry_reply;
 
 /* Opens an empty store: 0, or 9 and nothing is written.
  *   words, words_count   written: the header, words 0 to 4; the others stay
@@ -125,6 +159,16 @@ registry_value registry_read(const uint64_t *words, size_t words_count, const ui
 /* The first live key at or behind the place `from`. Writes nothing. A walk over the table, ascending by key, begins at 0 and goes on at
  * `next` until nothing is found. */
 registry_entry registry_entry_from(const uint64_t *words, size_t words_count, const uint8_t *bytes, size_t bytes_count, size_t from);
+
+/* Reads the reply at the front of `input`, as a console receives it. Needs no store.
+ *   input, input_count   the bytes received and not used yet
+ *   items, items_count   written: of a whole reply four words for each item, in the order of their first bytes, and zero behind them;
+ *                        otherwise zero throughout
+ * The words of an item: its kind; the start and the length of its bytes in `input` (simple text, error text, bulk); its number in two's
+ * complement (integer) or its count of items (array). A word that an item has no use for is 0. An array takes a place, and its items
+ * follow it. With 11 the call may be made again with a longer table, after
+ * REGISTRY_WAIT with more bytes. */
+registry_reply registry_read_reply(const uint8_t *input, size_t input_count, uint64_t *items, size_t items_count);
 
 #ifdef __cplusplus
 }

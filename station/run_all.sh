@@ -8,6 +8,7 @@ STATION_LIB=$(realpath "${1:?the path of libstation.a}")
 REFERENCE=$(realpath "${2:-$ROOT/reference}")
 CALLS=${CALLS:-1000000}
 STATES=${STATES:-120000}
+STRINGS=${STRINGS:-100000}
 export STATION_LIB
 export CARGO_TARGET_DIR=${CARGO_TARGET_DIR:-$HERE/target}
 BIN=$CARGO_TARGET_DIR/release
@@ -27,12 +28,16 @@ step() {
 }
 
 build() { cd "$HERE" && cargo build --release --offline --quiet; }
-c_test() { cc -std=c11 -Wall -Wextra -Werror -I "$ROOT/include" "$ROOT/tests/c_test.c" "$STATION_LIB" -o "$BIN/c_test" && "$BIN/c_test"; }
+# c_program STANDARD SOURCE: builds a C source of the repository against the library, into BIN.
+c_program() { cc -std="$1" -Wall -Wextra -Werror -I "$ROOT/include" "$ROOT/$2" "$STATION_LIB" -o "$BIN/$(basename "$2" .c)"; }
+c_test() { c_program c11 tests/c_test.c && "$BIN/c_test"; }
+fuzz_replies() { c_program c11 tests/replies_lib.c && "$REFERENCE/fuzz_replies.py" "$BIN/replies_lib" 1 "$1"; }
+read_replies() { c_program c99 examples/read_replies.c && READ_REPLIES=$BIN/read_replies "$HERE/tests/read_replies.sh"; }
 build_reference() { [ -x "$REFERENCE/rust/frames_rust" ] || "$REFERENCE/rust/build.sh"; }
 sample() { cmp <("$1" < "$REFERENCE/samples/$2.in") "$REFERENCE/samples/$2.out"; }
 compare() { cd "$REFERENCE" && ./compare.py "$@"; }
 export HERE ROOT BIN REFERENCE
-export -f build c_test build_reference sample compare
+export -f build c_program c_test fuzz_replies read_replies build_reference sample compare
 
 step "build" 600 bash -c build
 [ "$FAILED" = 0 ] || exit 1
@@ -51,6 +56,8 @@ step "model: limits" 300 bash -c 'compare "$@"' _ model "$BIN/frames_lib" limits
 step "model: numbers" 300 bash -c 'compare "$@"' _ model "$BIN/frames_lib" numbers 1 20
 step "model: long lines" 300 bash -c 'compare "$@"' _ model "$BIN/frames_lib long" long
 step "model: groups with limits" 300 bash -c 'compare "$@"' _ model "$BIN/groups_lib" group-limits 1 150
+step "replies beside the reference" 300 bash -c 'fuzz_replies "$@"' _ "$STRINGS"
+step "read_replies" 60 bash -c read_replies
 for name in redis_cli connections benchmark side_by_side; do
     step "$name" 180 "$HERE/tests/$name.sh"
 done

@@ -1,4 +1,5 @@
-/* Links the library and runs open, request, group and the readings on buffers of its own. Ends with status 1 at the first difference. */
+/* Links the library and runs open, request, group, the readings and the reader of replies on buffers of its own. Ends with status 1 at the first
+ * difference. */
 #include "registry.h"
 #include <stdio.h>
 #include <stdlib.h>
@@ -14,6 +15,7 @@ static uint64_t session_words[REGISTRY_SESSION_WORDS];
 static uint8_t session_bytes[REGISTRY_SESSION_BYTES];
 static uint64_t places[REGISTRY_TABLE_WORDS(4)];
 static uint8_t reply[64];
+static uint64_t items[REGISTRY_ITEM_WORDS(9) + BEHIND];
 static int checks;
 
 static void check(int holds, int line) {
@@ -169,6 +171,56 @@ static void test_walk(void) {
     CHECK(registry_read(words, sizeof words / 8, bytes, 1, (const uint8_t *)"a", 1).number == 9);
 }
 
+/* A reply read with a table of so many words, none of which is zero before. */
+static registry_reply read_text(const char *text, size_t count) {
+    memset(items, 0xaa, sizeof items);
+    return registry_read_reply((const uint8_t *)text, strlen(text), items, count);
+}
+
+static int is(registry_reply r, uint64_t number, uint64_t state, size_t used, size_t items_read, size_t offset) {
+    return r.number == number && r.state == state && r.used == used && r.items == items_read && r.offset == offset;
+}
+
+/* The table of `count` words is `due_count` words and zeros, and the words behind it were not touched. */
+static int tabled(size_t count, const uint64_t *due, size_t due_count) {
+    for (size_t i = 0; i < sizeof items / 8; i++) {
+        uint64_t wanted = i >= count ? 0xaaaaaaaaaaaaaaaau : i < due_count ? due[i] : 0;
+        if (items[i] != wanted) {
+            return 0;
+        }
+    }
+    return 1;
+}
+
+#define EIGHT_ARRAYS "*1\r\n*1\r\n*1\r\n*1\r\n*1\r\n*1\r\n*1\r\n*1\r\n"
+
+static void test_replies(void) {
+    const uint64_t every_kind[] = {
+        REGISTRY_ARRAY, 0, 0, 7,
+        REGISTRY_SIMPLE, 5, 2, 0,
+        REGISTRY_ERROR, 10, 1, 0,
+        REGISTRY_INTEGER, 0, 0, (uint64_t)-5,
+        REGISTRY_BULK, 22, 3, 0,
+        REGISTRY_NIL, 0, 0, 0,
+        REGISTRY_NIL_ARRAY, 0, 0, 0,
+        REGISTRY_ARRAY, 0, 0, 0,
+    };
+    const char *text = "*7\r\n+OK\r\n-E\r\n:-5\r\n$3\r\na\r\n\r\n$-1\r\n*-1\r\n*0\r\n:x\r\n";
+    CHECK(is(read_text(text, 34), 0, REGISTRY_WHOLE, 41, 8, 0) && tabled(34, every_kind, 32));
+    CHECK(is(read_text(text, 32), 0, REGISTRY_WHOLE, 41, 8, 0) && tabled(32, every_kind, 32));
+    CHECK(is(read_text(text, 31), 11, REGISTRY_REFUSED, 0, 0, 0) && tabled(31, NULL, 0));
+    CHECK(is(read_text(text + 41, 4), 0, REGISTRY_FAULT, 0, 0, 0) && tabled(4, NULL, 0));
+    CHECK(is(read_text("*2\r\n+a\r\n$1\r\nax", 12), 0, REGISTRY_WAIT, 0, 0, 0) && tabled(12, NULL, 0));
+    CHECK(is(read_text("*2\r\n+a\r\n$1\r\naxx", 12), 0, REGISTRY_FAULT, 0, 0, 8) && tabled(12, NULL, 0));
+    CHECK(is(read_text("*2\r\n+a\r\n$+1\r\na\r\n", 8), 0, REGISTRY_FAULT, 0, 0, 8) && tabled(8, NULL, 0));
+    CHECK(is(read_text(EIGHT_ARRAYS ":5\r\n", 36), 0, REGISTRY_WHOLE, 36, 9, 0) && items[32] == REGISTRY_INTEGER && items[35] == 5);
+    CHECK(is(read_text(EIGHT_ARRAYS "*-1\r\n", 36), 0, REGISTRY_WHOLE, 37, 9, 0) && items[32] == REGISTRY_NIL_ARRAY && items[35] == 0);
+    CHECK(is(read_text(EIGHT_ARRAYS "*x\r\n", 32), 0, REGISTRY_FAULT, 0, 0, 32) && tabled(32, NULL, 0));
+    CHECK(is(read_text(EIGHT_ARRAYS "*0\r\n", 32), 12, REGISTRY_REFUSED, 0, 0, 0) && tabled(32, NULL, 0));
+    CHECK(is(read_text(EIGHT_ARRAYS "*0\r\n", 31), 11, REGISTRY_REFUSED, 0, 0, 0) && tabled(31, NULL, 0));
+    CHECK(is(registry_read_reply(NULL, 0, NULL, 0), 0, REGISTRY_WAIT, 0, 0, 0));
+}
+
 /* What lies behind the capacities was never touched. */
 static void test_behind(void) {
     for (size_t i = 0; i < BEHIND; i++) {
@@ -182,6 +234,7 @@ int main(void) {
     test_numbers();
     test_groups();
     test_walk();
+    test_replies();
     test_behind();
     printf("c_test: %d checks hold\n", checks);
     return 0;

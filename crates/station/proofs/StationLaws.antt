@@ -12,8 +12,12 @@ use Rattle.memtable.specs.Rows.{liveFound, valueFound, versionsIn}
 use Rattle.memtable.specs.Walk.{nextLive}
 use Rattle.memtable.proofs.Rows.{read-found}
 use Rattle.station.specs.declared.Reading.{Reading}
+use Rattle.received.specs.declared.ReplyRead.{ReplyRead}
+use Rattle.received.specs.declared.ReplyRead.the-variants.{Wait, Whole, Fault, Returned}
+use Rattle.replies.specs.Table.{ReplyIs}
 use Rattle.station.specs.declared.Listed.{Listed}
-use Rattle.station.specs.Station.{readingAt, noReading, readingOf, lastReading, read-call, valueRead, listedAt, noListed, listedOf, nextListed, entry-call}
+use Rattle.station.specs.declared.ReplyAnswer.{ReplyAnswer}
+use Rattle.station.specs.Station.{readingAt, noReading, readingOf, lastReading, read-call, valueRead, listedAt, noListed, listedOf, nextListed, entry-call, replyWords, replyAnswer, ReplyPromise}
 
 -- the value of version i, from its words
 pub reading-is : (w : List ℕ) (i : ℕ) {s k x v : ℕ} → s ≡ startWord w i → k ≡ keyWord w i → x ≡ valueWord w i → v ≡ x - 1
@@ -71,3 +75,24 @@ reading-reads w b k = named (liveFound w (findFrom 0 (versionsIn w b) k (lastWor
     named : (o : Found) → valueRead b (readingOf w o) ≡ valueFound w b o
     named (At i) = refl
     named Nothing = refl
+
+-- AN ANSWER OF THE READER of replies, in words
+module _ {read : ReplyRead} where
+  pub answer-wait : read ≡ Wait → replyWords 0 0 0 0 0 ≡ replyAnswer read
+  unfolding replyAnswer
+  answer-wait e = rw e refl
+
+  pub answer-whole : {used items : ℕ} → read ≡ Whole used items → replyWords 0 1 used items 0 ≡ replyAnswer read
+  unfolding replyAnswer
+  answer-whole e = rw e refl
+
+  pub answer-fault : {offset : ℕ} → read ≡ Fault offset → replyWords 0 2 0 0 offset ≡ replyAnswer read
+  unfolding replyAnswer
+  answer-fault e = rw e refl
+
+  pub answer-number : {number : ℕ} → read ≡ Returned number → replyWords number 3 0 0 0 ≡ replyAnswer read
+  unfolding replyAnswer
+  answer-number e = rw e refl
+
+  pub reply-promise : {input entry exit : List ℕ} {r : ReplyAnswer} → ReplyIs input entry read exit → r ≡ replyAnswer read → ReplyPromise input entry r exit
+  reply-promise is e = record { answer = e ∙ ap replyAnswer (is .answer); table = is .table }

@@ -1,9 +1,11 @@
--- What the calls for C and Rust return beside the published ones: a value, or a live key, as parts of the store's bytes.
-use Prim.Native.Nat.{ℕ, suc, _-_}
+-- What the calls for C and Rust return beside the published ones: a value, or a live key, as parts of the store's bytes; an answer of the reader of replies.
+use mathlib.Core.Path.{_≡_}
+use Prim.Native.Nat.{ℕ, suc, _-_, _/_}
 use mathlib.Core.Bool.{cond}
 use mathlib.Core.List.{List}
 use mathlib.Core.Option.{Option, none, some}
 use lib.Dec.{eqb}
+use lib.ListN.{length}
 use Rattle.key.specs.Bytes.{Bytes, part}
 use Rattle.memtable.specs.declared.Found.{Found}
 use Rattle.memtable.specs.declared.Found.the-variants.{At, Nothing}
@@ -13,9 +15,13 @@ use Rattle.memtable.specs.Layout.{countWord, lastWord, startWord, keyWord, valu
 use Rattle.memtable.specs.Rows.{liveFound, versionsIn}
 use Rattle.memtable.specs.Walk.{nextLive}
 use Rattle.server.specs.declared.Answer.{Answer}
+use Rattle.received.specs.declared.ReplyRead.{ReplyRead}
+use Rattle.received.specs.declared.ReplyRead.the-variants.{Wait, Whole, Fault, Returned}
+use Rattle.received.specs.Replies.{answerOf, tableOf, readReply}
 use Rattle.station.specs.declared.Answered.{Answered}
 use Rattle.station.specs.declared.Reading.{Reading}
 use Rattle.station.specs.declared.Listed.{Listed}
+use Rattle.station.specs.declared.ReplyAnswer.{ReplyAnswer}
 
 -- the struct that a request returns here, as the one that the published call returns
 abbrev pub answerIn : Answered → Answer
@@ -74,3 +80,19 @@ nextListed w b from = listedOf w (nextLive w b from (countWord w - from))
 -- ENTRY. 9 where the store is not valid
 unfoldable pub entry-call : List ℕ → Bytes → ℕ → Listed
 entry-call w b from = cond (validStore w b) (nextListed w b from) (noListed 9)
+
+-- READING A REPLY. The states: wait, whole, fault, and 3 with a number.
+abbrev pub replyWords : ℕ → ℕ → ℕ → ℕ → ℕ → ReplyAnswer
+replyWords number state used items offset = record { number = number; state = state; used = used; items = items; offset = offset }
+
+-- an answer of the reader, in words
+unfoldable pub replyAnswer : ReplyRead → ReplyAnswer
+replyAnswer Wait = replyWords 0 0 0 0 0
+replyAnswer (Whole used items) = replyWords 0 1 used items 0
+replyAnswer (Fault offset) = replyWords 0 2 0 0 offset
+replyAnswer (Returned number) = replyWords number 3 0 0 0
+
+-- the answer and the whole of the lent table are those of the definition
+pub record ReplyPromise (input entry : List ℕ) (r : ReplyAnswer) (exit : List ℕ) : Type 0 where
+  pub answer : r ≡ replyAnswer (answerOf (readReply (length entry / 4) input))
+  pub table : exit ≡ tableOf (length entry) (readReply (length entry / 4) input)

@@ -3,13 +3,14 @@ use batch::Member;
 use memtable::Found;
 use memtable::live;
 use memtable::read;
+use received::ReplyRead;
 use store::valid;
 ghost use mathlib.Core.Path.{_≡_};
 ghost use Prim.Native.Nat.{_/_};
 ghost use lib.ListN.{length};
 ghost use Rattle.memtable.specs.Rows.{RowIn, Valid};
 ghost use Rattle.calls.specs.Calls.{GroupPromise, OpenPromise, RequestPromise, TablePromise, lentOf};
-ghost use Rattle.station.specs.Station.{answerIn, entry-call, lastReading, listedAt, nextListed, noListed, noReading, read-call, readingAt};
+ghost use Rattle.station.specs.Station.{answerIn, entry-call, lastReading, listedAt, nextListed, noListed, noReading, read-call, readingAt, replyAnswer, ReplyPromise};
 
 // What a request returns: 0 or a number of document 01, the bytes used, and the length of the reply.
 #[repr(C)]
@@ -39,6 +40,26 @@ pub struct Listed {
     pub value_start: usize,
     pub value_size: usize,
 }
+
+// What the reader of replies answers: 0, 11 or 12; 0 wait, 1 a whole reply, 2 a fault, 3 with a number; the bytes and the count of items of a whole
+// reply, and the offset of a fault.
+#[repr(C)]
+pub struct ReplyAnswer {
+    pub number: u64,
+    pub state: u64,
+    pub used: usize,
+    pub items: usize,
+    pub offset: usize,
+}
+
+// The states of a reply.
+const WAIT: u64 = 0;
+
+const WHOLE: u64 = 1;
+
+const FAULT: u64 = 2;
+
+const REFUSED: u64 = 3;
 
 // Opens an empty store with this last sequence and these capacities: 0, or 9 where the buffers do not hold them.
 #[no_mangle]
@@ -206,4 +227,49 @@ pub extern "C" fn registry_entry_from(words: &[u64], bytes: &[u8], from: usize) 
         return entry_from(words, bytes, from);
     }
     no_entry(9)
+}
+
+// An answer of the reader, in words.
+fn reply_answer(read: ReplyRead) -> ReplyAnswer
+    ensures { λ r. ⌜ r ≡ replyAnswer read ⌝ }
+{
+    match read {
+        ReplyRead::Wait => ReplyAnswer {
+            number: 0,
+            state: WAIT,
+            used: 0,
+            items: 0,
+            offset: 0,
+        },
+        ReplyRead::Whole(used, items) => ReplyAnswer {
+            number: 0,
+            state: WHOLE,
+            used: used,
+            items: items,
+            offset: 0,
+        },
+        ReplyRead::Fault(offset) => ReplyAnswer {
+            number: 0,
+            state: FAULT,
+            used: 0,
+            items: 0,
+            offset: offset,
+        },
+        ReplyRead::Returned(number) => ReplyAnswer {
+            number: number,
+            state: REFUSED,
+            used: 0,
+            items: 0,
+            offset: 0,
+        },
+    }
+}
+
+// Reads the reply at the front of `input` into the table `items`, four words for an item.
+#[no_mangle]
+pub extern "C" fn registry_read_reply(input: &[u8], items: &mut [u64]) -> ReplyAnswer
+    ensures { λ r. ⌜ ReplyPromise (now (input .entry)) (now (items .entry)) r (now (items .exit)) ⌝ }
+{
+    let read = replies::read_reply(input, items);
+    reply_answer(read)
 }
