@@ -1,16 +1,13 @@
 -- The laws of the text of faults: each is written part by part. Assumes nothing.
-use mathlib.Core.Path.{_≡_, refl, sym, ap, ap₂, _∙_}
-use mathlib.Core.Bool.{Bool, true, false}
-use mathlib.Core.List.{[], _∷_, _++_, map, map-append, append-assoc}
-use Prim.Native.Nat.{ℕ, zero, suc, _+_, _-_, _/_, _%_, _≤_, _<_}
+use mathlib.Core.Path.{_≡_, refl, sym, _∙_}
+use mathlib.Core.List.{_++_, map, map-append, append-assoc}
+use Prim.Native.Nat.{ℕ, _+_, _-_, _≤_, _<_}
 use native.Mathlib.Omega.{arith}
-use borrow.Author.Tests.{ne-eqb}
-use lib.Dec.{ltb}
 use lib.ListN.{length, take, drop, length-drop, drop-of-length-le}
 use lib.Seq.{take-all, take-nil}
-use Rattle.resp.proofs.ReplyTexts.{clean-quote}
+use Rattle.resp.proofs.ReplyTexts.{clean-quote, digits-clean}
 use Rattle.key.specs.Bytes.{Bytes, bytes}
-use Rattle.number.specs.Decimal.{digitsStep, digitsWithin, digits}
+use Rattle.number.specs.Decimal.{digits}
 use Rattle.writing.specs.declared.Put.{Put}
 use Rattle.writing.specs.Puts.{Puts, Adds}
 use Rattle.writing.proofs.Puts.{then-puts, then-adds, same-added}
@@ -38,25 +35,6 @@ module _ (input : Bytes) (p : Span) where
 name-clean : (kind : Header) → map clean (headerName kind) ≡ headerName kind
 name-clean Multibulk = refl
 name-clean Bulk = refl
-
-digit-clean : (n : ℕ) → clean (48 + n % 10) ≡ 48 + n % 10
-digit-clean n = rw (ne-eqb (48 + n % 10) 13 (λ e. omega arith), ne-eqb (48 + n % 10) 10 (λ e. omega arith)) refl
-
-digits-within-clean : (room n : ℕ) → map clean (digitsWithin room n) ≡ digitsWithin room n
-unfolding digitsWithin
-digits-within-clean zero n = refl
-digits-within-clean (suc room) n = go (ltb n 10) (digits-within-clean room (n / 10))
-  where
-    last : map clean ((48 + n % 10) ∷ []) ≡ (48 + n % 10) ∷ []
-    last = ap (λ (d : ℕ). d ∷ []) (digit-clean n)
-
-    go : (t : Bool) → map clean (digitsWithin room (n / 10)) ≡ digitsWithin room (n / 10) → map clean (digitsStep t n (digitsWithin room (n / 10))) ≡ digitsStep t n (digitsWithin room (n / 10))
-    go true e = last
-    go false e = map-append clean (digitsWithin room (n / 10)) ((48 + n % 10) ∷ []) ∙ ap₂ _++_ e last
-
-digits-clean : (n : ℕ) → map clean (digits n) ≡ digits n
-unfolding digits
-digits-clean n = digits-within-clean (suc n) n
 
 -- parts in the order in which they are written
 clean-two : (a b : Bytes) → map clean a ≡ a → map clean b ≡ b → map clean (a ++ b) ≡ a ++ b
