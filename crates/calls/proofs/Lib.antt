@@ -1,5 +1,6 @@
 -- The laws of this crate.
 pub mod CallLaws
+pub mod CaptureLaws
 pub mod CommandLaws
 pub mod CounterLaws
 pub mod Demand3Proved

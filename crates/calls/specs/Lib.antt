@@ -5,6 +5,7 @@ pub mod Demand1
 pub mod Posting
 pub mod Verdicts
 pub mod Demand3
+pub mod Captures
 pub mod Made
 pub mod Frames
 pub mod Opens

@@ -1,0 +1,182 @@
+-- The bytes that a session receives tell its answers, and the bytes of replies the sum of a counter: by the one split of a reply stream.
+use Prim.Native.Nat.{ℕ, _≤_}
+use native.Mathlib.Omega.{arith}
+use mathlib.Core.Bool.{Bool, true, false, cond, _&&_}
+use mathlib.Core.List.{List, [], _∷_, _++_, map}
+use mathlib.Core.Logic.{_⊎_, inl, inr}
+use mathlib.Core.Option.{Option, none, some}
+use mathlib.Core.Path.{_≡_, refl, sym, ap, _∙_}
+use lib.Dec.{ltb, leb, eqb}
+use lib.IntN.{ℤ, _+ℤ_}
+use lib.ListN.{length}
+use Rattle.key.specs.Bytes.{Bytes, concat}
+use Rattle.key.specs.Keys.{Key, sameKey}
+use Rattle.resp.specs.Request.{Reading, waits, faulty, tooMany, whole, readRequest}
+use Rattle.resp.specs.Reply.{Reply, Simple, Error, Integer, BulkString, Nil, NilArray, Array, Items, noMore, item, array, items, encode, written}
+use Rattle.memtable.specs.Versions.{Store}
+use Rattle.capture.proofs.ReadBack.{one-split}
+use Rattle.capture.proofs.Splits.{three-bytes, all-bytes, same-front, same-pieces, all-lines, any-bytes}
+use Rattle.server.specs.Session.{Session, Result, number, reply, Done}
+use Rattle.server.specs.Finish.{Served, silent, finish, finishBy, fitted}
+use Rattle.server.specs.Command.{Command, GET, SET, DEL, EXISTS, MGET, MSET, COUNT, FIXED, Executed, runs, lists}
+use Rattle.calls.specs.Serve.{Outcome, serve, serveReading}
+use Rattle.calls.specs.Calls.{Lent, valid, storeOf, sessionOf, Call, request, grouped, call, outcomes, request-call}
+use Rattle.calls.specs.Posting.{alone, listed, exec, member}
+use Rattle.calls.specs.Demand3.{itemsOf, isInteger, orZero, increment, incrementBy, increments, sum, textOf}
+use Rattle.calls.specs.Captures.{SilentOrReply, noReply, replied, withAnswer, answersTo, CaptureClaim, OneSum, CounterByReplies}
+use Rattle.calls.proofs.CallLaws.{tested, no-session, not-valid, served}
+use Rattle.calls.proofs.CounterLaws.{counters, counter-replies}
+
+-- AN ANSWER
+finish-answers : (room used : ℕ) (d : Done) (st : Store) (s : Session) → SilentOrReply (finish room used d st s .reply)
+unfolding finish finishBy fitted
+finish-answers room used d st s = go (d .result)
+  where
+    fits : (r : Reply) (t : Bool) → SilentOrReply (cond {A = Served} t (record { number = 0; used = used; reply = encode r; store = d .store; session = d .session }) (silent 3 0 st s) .reply)
+    fits r true = replied r
+    fits r false = noReply
+
+    go : (x : Result) → SilentOrReply (finishBy x room used d st s .reply)
+    go (number n) = noReply
+    go (reply r) = fits r (leb (length (encode r)) room)
+
+reading-answers : (room : ℕ) (input : Bytes) (x : Reading) (st : Store) (s : Session) → SilentOrReply (serveReading room input x st s .reply)
+unfolding serveReading
+reading-answers room input waits st s = noReply
+reading-answers room input tooMany st s = noReply
+reading-answers room input (faulty f) st s = finish-answers room _ _ st s
+reading-answers room input (whole [] used) st s = noReply
+reading-answers room input (whole (p ∷ ps) used) st s = finish-answers room used _ st s
+
+pub served-answers : (places room : ℕ) (input : Bytes) (st : Store) (s : Session) → SilentOrReply (serve places room input st s .reply)
+unfolding serve
+served-answers places room input st s = reading-answers room input (readRequest places input) st s
+
+request-answers : (i : ℕ) (s : Bytes) (places room : ℕ) (l : Lent) → SilentOrReply (request-call i s places room l .outcome .reply)
+request-answers i s places room l = go (tested (ltb i 16)) (tested (valid l))
+  where
+    go : (ltb i 16 ≡ true) ⊎ (ltb i 16 ≡ false) → (valid l ≡ true) ⊎ (valid l ≡ false) → SilentOrReply (request-call i s places room l .outcome .reply)
+    go (inr e) v = rw (no-session i s places room l e) noReply
+    go (inl e) (inr v) = rw (not-valid i s places room l e v) noReply
+    go (inl e) (inl v) = rw (served i s places room l e v) (served-answers places room s (storeOf l) (sessionOf i l))
+
+-- THE ANSWERS TO A SESSION are replies
+pub some-answer : (s : Bytes) (bs : List Bytes) → 3 ≤ length s → withAnswer s bs ≡ s ∷ bs
+some-answer [] bs h = absurd (omega arith)
+some-answer (b ∷ s) bs h = refl
+
+-- the bytes of some list of replies
+abbrev AreReplies : List Bytes → Type 0
+AreReplies bs = (rs : List Reply) × (bs ≡ map encode rs)
+
+one-more : (s : Bytes) (bs : List Bytes) → SilentOrReply s → AreReplies bs → AreReplies (withAnswer s bs)
+one-more s bs noReply h = h
+one-more s bs (replied r) h = (r ∷ h .0, some-answer (encode r) bs (three-bytes r) ∙ ap (λ (l : List Bytes). encode r ∷ l) (h .1))
+
+answers-are : (i : ℕ) (cs : List Call) (l : Lent) → AreReplies (answersTo i cs (outcomes cs l))
+unfolding answersTo outcomes call
+answers-are i [] l = ([], refl)
+answers-are i (grouped ms parts d verdicts ∷ cs) l = answers-are i cs (call (grouped ms parts d verdicts) l .lent)
+answers-are i (request j s places room ∷ cs) l = go (eqb j i) (answers-are i cs (call (request j s places room) l .lent))
+  where
+    o : Outcome
+    o = request-call j s places room l .outcome
+
+    more : List Bytes
+    more = answersTo i cs (outcomes cs (call (request j s places room) l .lent))
+
+    go : (own : Bool) → AreReplies more → AreReplies (cond own (withAnswer (o .reply) more) more)
+    go true h = one-more (o .reply) more (request-answers j s places room l) h
+    go false h = h
+
+-- so the bytes received tell them: as they are written, one list of replies
+pub capture-tells : CaptureClaim
+capture-tells i cs l =
+    let h = answers-are i cs l in
+    let rs = map written (h .0) in
+    let each : answersTo i cs (outcomes cs l) ≡ map encode rs = h .1 ∙ sym (all-bytes (h .0)) in
+    record {
+      replies = rs;
+      lines = all-lines (h .0);
+      each = each;
+      the-only = λ qs f e. any-bytes .lists qs rs f (all-lines (h .0)) (e ∙ ap concat each);
+      front = λ qs x e. let f = same-front qs rs x (e ∙ ap concat each) in (map encode (f .0), each ∙ f .1, f .2);
+      only = λ qs e. each ∙ sym (same-pieces qs rs (e ∙ ap concat each));
+    }
+
+-- THE SUM OF A COUNTER asks of a reply only whether it is an integer, and a reply as it is written is one exactly if the reply is
+integer-written : (p : Reply) → isInteger (written p) ≡ isInteger p
+unfolding written
+integer-written (Simple text) = refl
+integer-written (Error text) = refl
+integer-written (Integer z) = refl
+integer-written (BulkString text) = refl
+integer-written Nil = refl
+integer-written NilArray = refl
+integer-written (Array is) = refl
+
+module _ (k : Key) where
+  increment-written : (c : Command) (p : Reply) (n : Option ℤ) → increment k c (written p) n ≡ increment k c p n
+  unfolding increment
+  increment-written (GET j) p n = refl
+  increment-written (SET j v) p n = refl
+  increment-written (DEL ks) p n = refl
+  increment-written (EXISTS ks) p n = refl
+  increment-written (MGET ks) p n = refl
+  increment-written (MSET es) p n = refl
+  increment-written (COUNT j by) p n = ap (λ (b : Bool). cond (sameKey j k && b) (some (orZero n +ℤ by)) n) (integer-written p)
+  increment-written (FIXED r) p n = refl
+
+  executed-written : (x : Executed) (p : Reply) (n : Option ℤ) → incrementBy k x (written p) n ≡ incrementBy k x p n
+  unfolding incrementBy
+  executed-written (runs c) p n = increment-written c p n
+  executed-written (lists l) p n = refl
+
+  increments-written : (q : List Executed) (ps : List Reply) (n : Option ℤ) → increments k q (map written ps) n ≡ increments k q ps n
+  unfolding increments
+  increments-written [] ps n = refl
+  increments-written (x ∷ q) [] n = refl
+  increments-written (x ∷ q) (p ∷ ps) n = ap (increments k q (map written ps)) (executed-written x p n) ∙ increments-written q ps (incrementBy k x p n)
+
+-- replies with the same bytes are written alike, and so are the items of arrays
+alike : (p q : Reply) → encode p ≡ encode q → written p ≡ written q
+alike p q e = one-split p q [] [] (ap (λ (s : Bytes). s ++ []) e) .0
+
+unfoldable listOf : Items → List Reply
+listOf noMore = []
+listOf (item r is) = r ∷ listOf is
+
+unfoldable itemsIn : Reply → List Reply
+itemsIn (Simple text) = []
+itemsIn (Error text) = []
+itemsIn (Integer z) = []
+itemsIn (BulkString text) = []
+itemsIn Nil = []
+itemsIn NilArray = []
+itemsIn (Array is) = listOf is
+
+items-in : (ps : List Reply) → itemsIn (written (array ps)) ≡ map written ps
+unfolding written items itemsIn listOf
+items-in [] = refl
+items-in (p ∷ ps) = ap (λ (l : List Reply). written p ∷ l) (items-in ps)
+
+items-alike : (ps qs : List Reply) → encode (array ps) ≡ encode (array qs) → map written ps ≡ map written qs
+items-alike ps qs e = sym (items-in ps) ∙ ap itemsIn (alike (array ps) (array qs) e) ∙ items-in qs
+
+pub one-sum : OneSum
+one-sum k [] n m m′ h g = h ∙ sym g
+one-sum k (alone c b ∷ xs) n m m′ h g =
+    let p = h .0 in
+    let q = g .0 in
+    let same : increment k c p n ≡ increment k c q n = sym (increment-written k c p n) ∙ ap (λ (r : Reply). increment k c r n) (alike p q (sym (h .1) ∙ g .1)) ∙ increment-written k c q n in
+    one-sum k xs (increment k c p n) m m′ (h .2) (rw same (g .2))
+one-sum k (listed l b ∷ xs) n m m′ h g = one-sum k xs n m m′ h g
+one-sum k (exec q b ∷ xs) n m m′ h g =
+    let ps = h .0 in
+    let rs = g .0 in
+    let same : increments k q ps n ≡ increments k q rs n = sym (increments-written k q ps n) ∙ ap (λ (l : List Reply). increments k q l n) (items-alike ps rs (sym (h .1) ∙ g .1)) ∙ increments-written k q rs n in
+    one-sum k xs (increments k q ps n) m m′ (h .3) (rw same (g .3))
+one-sum k (member ws ∷ xs) n m m′ h g = one-sum k xs n m m′ h g
+
+pub counter-by-replies : CounterByReplies
+counter-by-replies cs l o k only m h = counters cs l o k only ∙ ap textOf (one-sum k (itemsOf cs l) none (sum k (itemsOf cs l) [] none) m (counter-replies cs l o k) h)
