@@ -33,11 +33,12 @@ c_program() { cc -std="$1" -Wall -Wextra -Werror -I "$ROOT/include" "$ROOT/$2" "
 c_test() { c_program c11 tests/c_test.c && "$BIN/c_test"; }
 fuzz_replies() { c_program c11 tests/replies_lib.c && "$REFERENCE/fuzz_replies.py" "$BIN/replies_lib" 1 "$1"; }
 read_replies() { c_program c99 examples/read_replies.c && READ_REPLIES=$BIN/read_replies "$HERE/tests/read_replies.sh"; }
+show_replies() { c_program c11 examples/show_replies.c && python3 "$HERE/tests/show_replies.py" "$BIN/show_replies"; }
 build_reference() { [ -x "$REFERENCE/rust/frames_rust" ] || "$REFERENCE/rust/build.sh"; }
 sample() { cmp <("$1" < "$REFERENCE/samples/$2.in") "$REFERENCE/samples/$2.out"; }
 compare() { cd "$REFERENCE" && ./compare.py "$@"; }
 export HERE ROOT BIN REFERENCE
-export -f build c_program c_test fuzz_replies read_replies build_reference sample compare
+export -f build c_program c_test fuzz_replies read_replies show_replies build_reference sample compare
 
 step "build" 600 bash -c build
 [ "$FAILED" = 0 ] || exit 1
@@ -58,6 +59,7 @@ step "model: long lines" 300 bash -c 'compare "$@"' _ model "$BIN/frames_lib lon
 step "model: groups with limits" 300 bash -c 'compare "$@"' _ model "$BIN/groups_lib" group-limits 1 150
 step "replies beside the reference" 300 bash -c 'fuzz_replies "$@"' _ "$STRINGS"
 step "read_replies" 60 bash -c read_replies
+step "show_replies" 120 bash -c show_replies
 for name in redis_cli connections benchmark side_by_side; do
     step "$name" 180 "$HERE/tests/$name.sh"
 done
