@@ -3,62 +3,32 @@ use Prim.Native.Nat.{ℕ, _≤_}
 use native.Mathlib.Omega.{arith}
 use mathlib.Core.Bool.{Bool, true, false, cond, _&&_}
 use mathlib.Core.List.{List, [], _∷_, _++_, map}
-use mathlib.Core.Logic.{_⊎_, inl, inr}
 use mathlib.Core.Option.{Option, none, some}
 use mathlib.Core.Path.{_≡_, refl, sym, ap, _∙_}
-use lib.Dec.{ltb, leb, eqb}
+use lib.Dec.{eqb}
 use lib.IntN.{ℤ, _+ℤ_}
 use lib.ListN.{length}
 use Rattle.key.specs.Bytes.{Bytes, concat}
 use Rattle.key.specs.Keys.{Key, sameKey}
-use Rattle.resp.specs.Request.{Reading, waits, faulty, tooMany, whole, readRequest}
 use Rattle.resp.specs.Reply.{Reply, Simple, Error, Integer, BulkString, Nil, NilArray, Array, Items, noMore, item, array, items, encode, written}
-use Rattle.memtable.specs.Versions.{Store}
 use Rattle.capture.proofs.ReadBack.{one-split}
 use Rattle.capture.proofs.Splits.{three-bytes, all-bytes, same-front, same-pieces, all-lines, any-bytes}
-use Rattle.server.specs.Session.{Session, Result, number, reply, Done}
-use Rattle.server.specs.Finish.{Served, silent, finish, finishBy, fitted}
 use Rattle.server.specs.Command.{Command, GET, SET, DEL, EXISTS, MGET, MSET, COUNT, FIXED, Executed, runs, lists}
-use Rattle.calls.specs.Serve.{Outcome, serve, serveReading}
-use Rattle.calls.specs.Calls.{Lent, valid, storeOf, sessionOf, Call, request, grouped, call, outcomes, request-call}
+use Rattle.calls.specs.Calls.{Lent, Call, firstNumber, stateIn, call, outcomes}
 use Rattle.calls.specs.Posting.{alone, listed, exec, member}
-use Rattle.calls.specs.Demand3.{itemsOf, isInteger, orZero, increment, incrementBy, increments, sum, textOf}
+use Rattle.calls.specs.Demand3.{itemsOf, isOf, isInteger, orZero, increment, incrementBy, increments, sum, textOf}
 use Rattle.calls.specs.Captures.{SilentOrReply, noReply, replied, withAnswer, answersTo, CaptureClaim, OneSum, CounterByReplies}
-use Rattle.calls.proofs.CallLaws.{tested, no-session, not-valid, served}
+use Rattle.calls.proofs.EveryKind.{kind}
 use Rattle.calls.proofs.CounterLaws.{counters, counter-replies}
 
--- AN ANSWER
-finish-answers : (room used : ℕ) (d : Done) (st : Store) (s : Session) → SilentOrReply (finish room used d st s .reply)
-unfolding finish finishBy fitted
-finish-answers room used d st s = go (d .result)
+-- A CALL of a session answers so, on any lent memory
+call-answers : (i : ℕ) (c : Call) (l : Lent) → isOf i c ≡ true → SilentOrReply (call c l .outcome .reply)
+unfolding call
+call-answers i c l own = go (eqb (firstNumber c l) 0) refl
   where
-    fits : (r : Reply) (t : Bool) → SilentOrReply (cond {A = Served} t (record { number = 0; used = used; reply = encode r; store = d .store; session = d .session }) (silent 3 0 st s) .reply)
-    fits r true = replied r
-    fits r false = noReply
-
-    go : (x : Result) → SilentOrReply (finishBy x room used d st s .reply)
-    go (number n) = noReply
-    go (reply r) = fits r (leb (length (encode r)) room)
-
-reading-answers : (room : ℕ) (input : Bytes) (x : Reading) (st : Store) (s : Session) → SilentOrReply (serveReading room input x st s .reply)
-unfolding serveReading
-reading-answers room input waits st s = noReply
-reading-answers room input tooMany st s = noReply
-reading-answers room input (faulty f) st s = finish-answers room _ _ st s
-reading-answers room input (whole [] used) st s = noReply
-reading-answers room input (whole (p ∷ ps) used) st s = finish-answers room used _ st s
-
-pub served-answers : (places room : ℕ) (input : Bytes) (st : Store) (s : Session) → SilentOrReply (serve places room input st s .reply)
-unfolding serve
-served-answers places room input st s = reading-answers room input (readRequest places input) st s
-
-request-answers : (i : ℕ) (s : Bytes) (places room : ℕ) (l : Lent) → SilentOrReply (request-call i s places room l .outcome .reply)
-request-answers i s places room l = go (tested (ltb i 16)) (tested (valid l))
-  where
-    go : (ltb i 16 ≡ true) ⊎ (ltb i 16 ≡ false) → (valid l ≡ true) ⊎ (valid l ≡ false) → SilentOrReply (request-call i s places room l .outcome .reply)
-    go (inr e) v = rw (no-session i s places room l e) noReply
-    go (inl e) (inr v) = rw (not-valid i s places room l e v) noReply
-    go (inl e) (inl v) = rw (served i s places room l e v) (served-answers places room s (storeOf l) (sessionOf i l))
+    go : (b : Bool) → eqb (firstNumber c l) 0 ≡ b → SilentOrReply (call c l .outcome .reply)
+    go false e = rw (e, call) noReply
+    go true e = rw (e, call) (kind c .answers i (stateIn l) own)
 
 -- THE ANSWERS TO A SESSION are replies
 pub some-answer : (s : Bytes) (bs : List Bytes) → 3 ≤ length s → withAnswer s bs ≡ s ∷ bs
@@ -74,20 +44,19 @@ one-more s bs noReply h = h
 one-more s bs (replied r) h = (r ∷ h .0, some-answer (encode r) bs (three-bytes r) ∙ ap (λ (l : List Bytes). encode r ∷ l) (h .1))
 
 answers-are : (i : ℕ) (cs : List Call) (l : Lent) → AreReplies (answersTo i cs (outcomes cs l))
-unfolding answersTo outcomes call
+unfolding answersTo outcomes
 answers-are i [] l = ([], refl)
-answers-are i (grouped ms parts d verdicts ∷ cs) l = answers-are i cs (call (grouped ms parts d verdicts) l .lent)
-answers-are i (request j s places room ∷ cs) l = go (eqb j i) (answers-are i cs (call (request j s places room) l .lent))
+answers-are i (c ∷ cs) l = go (isOf i c) refl (answers-are i cs (call c l .lent))
   where
-    o : Outcome
-    o = request-call j s places room l .outcome
+    reply : Bytes
+    reply = call c l .outcome .reply
 
     more : List Bytes
-    more = answersTo i cs (outcomes cs (call (request j s places room) l .lent))
+    more = answersTo i cs (outcomes cs (call c l .lent))
 
-    go : (own : Bool) → AreReplies more → AreReplies (cond own (withAnswer (o .reply) more) more)
-    go true h = one-more (o .reply) more (request-answers j s places room l) h
-    go false h = h
+    go : (own : Bool) → isOf i c ≡ own → AreReplies more → AreReplies (cond own (withAnswer reply more) more)
+    go true e h = one-more reply more (call-answers i c l e) h
+    go false e h = h
 
 -- so the bytes received tell them: as they are written, one list of replies
 pub capture-tells : CaptureClaim

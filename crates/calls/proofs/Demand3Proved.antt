@@ -3,13 +3,13 @@ use Rattle.calls.specs.Demand3.{Demand3Holds}
 use Rattle.calls.proofs.CounterLaws.{counters, counter-replies}
 use Rattle.calls.proofs.IsolationClaim.{quiet-leaves, isolation, isolation-until-exec, always-valid}
 use Rattle.calls.proofs.IsolationLaws.{isolated}
-use Rattle.calls.proofs.Posting.{claim, stays-valid}
-use Rattle.calls.proofs.QuietLaws.{fed, quiet}
-use Rattle.calls.proofs.WatchLaws.{no-exec-after-move, no-exec-after-write}
-use Rattle.calls.proofs.VerdictLaws.{verdicts-caused}
+use Rattle.calls.proofs.Posting.{claim, stays-valid, no-exec-after-move, no-exec-after-write, verdicts-caused}
+use Rattle.calls.proofs.EveryKind.{fed, quiet}
+use Rattle.calls.proofs.StateLaws.{request-is, group-is}
 
 pub demand-3 : Demand3Holds
 demand-3 = record {
+  calls = record { requests = request-is; groups = group-is };
   claim = claim;
   fed = fed;
   counters = counters;

@@ -1,58 +1,58 @@
--- A group is followed by posting: the writes of the members with verdict 0, in order.
+-- THE LAWS OF A GROUP. It tells the writes of the members with verdict 0, in order, each on the store that the one before it left.
 use Prim.Native.Nat.{ℕ, zero, suc, _-_}
 use native.Mathlib.Omega.{arith}
 use mathlib.Core.List.{List, [], _∷_, _++_, map}
-use mathlib.Core.Bool.{true, false, cond}
+use mathlib.Core.Bool.{Bool, true, false, cond, false≢true}
 use mathlib.Core.Path.{_≡_, refl, sym, ap, _∙_}
 use lib.Dec.{eqb}
+use borrow.Author.Tests.{ne-eqb}
 use lib.ListN.{length, take, drop, replicate, take-append-drop}
+use Rattle.key.specs.Bytes.{Bytes}
 use Rattle.key.specs.Keys.{Key}
-use Rattle.memtable.specs.Versions.{Store, newest, moved, table, commit}
-use Rattle.memtable.proofs.VersionLaws.{Sound, table-commit, Later, later-refl, later-commit}
+use Rattle.key.proofs.Bytes.{and-left}
+use Rattle.memtable.specs.Versions.{Store}
+use Rattle.memtable.specs.Layout.{validStore}
+use Rattle.batch.specs.declared.Member.{Member}
 use Rattle.batch.specs.declared.Verdict.{Verdict}
 use Rattle.batch.specs.declared.Verdict.the-variants.{Accepted, Conflict, NoRoom, NoSequence, NotTaken}
-use Rattle.batch.specs.Group.{Pending, among, verdictByte, judge, writtenAfter, storeAfter, judgeAll, memberSize, taken, group}
-use Rattle.batch.proofs.GroupLaws.{after-member, after-all, verdicts-long}
-use Rattle.calls.specs.Posting.{Item, member, acceptedIn, post, postAll, AllHold}
-use Rattle.calls.specs.Verdicts.{itemKeys, writtenIn}
-use Rattle.calls.proofs.FollowLaws.{some-item}
-use Rattle.calls.proofs.MovedLaws.{commit-moves, commit-keeps, moved-later, no-keys, first-keys, unwritten}
+use Rattle.batch.specs.Group.{Pending, verdictByte, judge, writtenAfter, storeAfter, judgeAll, memberSize, taken, Finished, group}
+use Rattle.batch.specs.Members.{groupFits, pendingOf}
+use Rattle.batch.proofs.GroupLaws.{After, after-member, after-group, verdicts-long}
+use Rattle.server.proofs.SessionLaws.{session-later}
+use Rattle.calls.specs.Serve.{State, sessionIn, Outcome, refused, outcomeOf, Stepped}
+use Rattle.calls.specs.Calls.{Lent, valid, judged, grouped, groupOn, step, firstNumber, touched}
+use Rattle.calls.specs.Posting.{Event, wrote, acceptedIn, told, Client, enterAll}
+use Rattle.calls.specs.Demand3.{NoneAccepted}
+use Rattle.calls.proofs.MovedLaws.{later-from}
+use Rattle.calls.proofs.EventLaws.{bound, Fit, Chain, ended, after}
+use Rattle.calls.proofs.WatchLaws.{same-keeps-watch}
+use Rattle.calls.proofs.KindLaws.{Law, unmoved, SameOn, SameOnBoth, Kind}
 
-pub record GroupFollows (ms : List Pending) (vs : List Verdict) (before after : Store) : Type 0 where
-  pub tables : postAll (acceptedIn ms (map verdictByte vs)) (table (before .versions)) ≡ table (after .versions)
-  pub holds : AllHold (acceptedIn ms (map verdictByte vs)) (table (before .versions))
-  pub quiet : acceptedIn ms (map verdictByte vs) ≡ [] → after ≡ before
-  pub moves : (k : Key) → among (writtenIn (acceptedIn ms (map verdictByte vs)) (table (before .versions))) k ≡ true → moved (before .last) (after .versions) k ≡ true
-  pub keeps : (k : Key) → among (writtenIn (acceptedIn ms (map verdictByte vs)) (table (before .versions))) k ≡ false → newest (after .versions) k ≡ newest (before .versions) k
+-- the state with another store, and with the store as it is
+abbrev pub withStoreOf : Store → State → State
+withStoreOf st p = record { store = st; sessions = p .sessions }
 
--- one member in front of the rest: accepted or not, its place in the store is its place in the history
-member-follows : (v : Verdict) (m : Pending) (ms : List Pending) (vs : List Verdict) (st after : Store) → Sound st → Later (storeAfter v (m .writes) st) after
-    → GroupFollows ms vs (storeAfter v (m .writes) st) after → GroupFollows (m ∷ ms) (v ∷ vs) st after
-unfolding acceptedIn postAll post storeAfter itemKeys
-member-follows Accepted m ms vs st after s l f =
-    let e = table-commit (m .writes) st (s .seqs) in
-    record {
-      tables = rw e at (f .tables);
-      holds = (tt, rw e at (f .holds));
-      quiet = λ z. some-item z;
-      moves = λ k h. first-keys _ _ _ k h
-          (λ x. moved-later (st .last) (st .last) (commit (m .writes) st) after k (omega arith) l (commit-moves (m .writes) st k x))
-          (λ x. moved-later (st .last) (commit (m .writes) st .last) after after k (later-commit (m .writes) st .lasts) (later-refl after) (f .moves k (rw e x)));
-      keeps = λ k h. let n = unwritten _ _ _ k h in f .keeps k (rw e (n .1)) ∙ commit-keeps (m .writes) st k (n .0);
-    }
-member-follows Conflict m ms vs st after s l f = record { tables = f .tables; holds = f .holds; quiet = f .quiet; moves = f .moves; keeps = f .keeps }
-member-follows NoRoom m ms vs st after s l f = record { tables = f .tables; holds = f .holds; quiet = f .quiet; moves = f .moves; keeps = f .keeps }
-member-follows NoSequence m ms vs st after s l f = record { tables = f .tables; holds = f .holds; quiet = f .quiet; moves = f .moves; keeps = f .keeps }
-member-follows NotTaken m ms vs st after s l f = record { tables = f .tables; holds = f .holds; quiet = f .quiet; moves = f .moves; keeps = f .keeps }
+pub store-fit : (p : State) (st : Store) → Fit p → After (p .store) st → Fit (withStoreOf st p)
+store-fit p st fit a = record { sound = a .sound; sixteen = fit .sixteen; each = λ i h. session-later _ _ (sessionIn i p) (a .later .lasts) (fit .each i h) }
 
-judged-follows : (written : List Key) (ms : List Pending) (st : Store) → Sound st → GroupFollows ms (judgeAll written ms st .verdicts) st (judgeAll written ms st .store)
-unfolding judgeAll acceptedIn postAll
-judged-follows written [] st s = record { tables = refl; holds = tt; quiet = λ z. refl; moves = λ k h. no-keys _ k h; keeps = λ k h. refl }
-judged-follows written (m ∷ ms) st s =
-    let v = judge written st m in
-    let next = storeAfter v (m .writes) st in
-    let good = after-member written st m s .sound in
-    member-follows v m ms _ st _ s (after-all (writtenAfter v m written) ms next good .later) (judged-follows (writtenAfter v m written) ms next good)
+-- one member in front of the rest: accepted or not, its place in the store is its place among the events
+member-chain : (v : Verdict) (m : Pending) (ms : List Pending) (vs : List Verdict) (p r : State) → Fit (withStoreOf (storeAfter v (m .writes) (p .store)) p)
+    → Chain (acceptedIn ms (map verdictByte vs)) (withStoreOf (storeAfter v (m .writes) (p .store)) p) r → Chain (acceptedIn (m ∷ ms) (map verdictByte (v ∷ vs))) p r
+unfolding acceptedIn storeAfter
+member-chain Accepted m ms vs p r f c = after {e = wrote (m .writes)} (record { store = refl; sessions = λ j. refl }) f c
+member-chain Conflict m ms vs p r f c = c
+member-chain NoRoom m ms vs p r f c = c
+member-chain NoSequence m ms vs p r f c = c
+member-chain NotTaken m ms vs p r f c = c
+
+judged-chain : (written : List Key) (ms : List Pending) (p : State) → Fit p
+    → Chain (acceptedIn ms (map verdictByte (judgeAll written ms (p .store) .verdicts))) p (withStoreOf (judgeAll written ms (p .store) .store) p)
+unfolding judgeAll acceptedIn
+judged-chain written [] p fit = ended
+judged-chain written (m ∷ ms) p fit =
+    let v = judge written (p .store) m in
+    let good = store-fit p (storeAfter v (m .writes) (p .store)) fit (after-member written (p .store) m (fit .sound)) in
+    member-chain v m ms (judgeAll (writtenAfter v m written) ms (storeAfter v (m .writes) (p .store)) .verdicts) p _ good (judged-chain (writtenAfter v m written) ms (withStoreOf (storeAfter v (m .writes) (p .store)) p) good)
 
 -- members that were not taken are not posted
 none-taken : (ms : List Pending) (n : ℕ) → acceptedIn ms (map verdictByte (replicate n NotTaken)) ≡ []
@@ -68,16 +68,107 @@ taken-only [] ys [] n h = none-taken ys n
 taken-only [] ys (v ∷ vs) n h = absurd (omega arith)
 taken-only (x ∷ xs) ys [] n h = absurd (omega arith)
 taken-only (x ∷ xs) ys (v ∷ vs) n h =
-    ap (λ (l : List Item). cond (eqb (verdictByte v) 0) (member (x .writes) ∷ l) l) (taken-only xs ys vs n (omega arith))
+    ap (λ (l : List Event). cond (eqb (verdictByte v) 0) (wrote (x .writes) ∷ l) l) (taken-only xs ys vs n (omega arith))
 
-pub group-follows : (ms : List Pending) (st : Store) → Sound st → GroupFollows ms (group ms st .verdicts) st (group ms st .store)
+pub group-chain : (ms : List Pending) (p : State) → Fit p → Chain (acceptedIn ms (map verdictByte (group ms (p .store) .verdicts))) p (withStoreOf (group ms (p .store) .store) p)
 unfolding group
-group-follows ms st s =
+group-chain ms p fit =
     let n = taken (map memberSize ms) in
     let k = length ms - n in
-    let g = judgeAll [] (take n ms) st in
-    let f = judged-follows [] (take n ms) st s in
+    let g = judgeAll [] (take n ms) (p .store) in
     let e : acceptedIn ms (map verdictByte (g .verdicts ++ replicate k NotTaken)) ≡ acceptedIn (take n ms) (map verdictByte (g .verdicts)) =
     ap (λ (x : List Pending). acceptedIn x (map verdictByte (g .verdicts ++ replicate k NotTaken))) (sym (take-append-drop n ms))
-    ∙ taken-only (take n ms) (drop n ms) (g .verdicts) k (verdicts-long [] (take n ms) st) in
-    record { tables = ap (λ (x : List Item). postAll x (table (st .versions))) e ∙ f .tables; holds = rw e (f .holds); quiet = λ z. f .quiet (sym e ∙ z); moves = λ k h. f .moves k (rw e at h); keeps = λ k h. f .keeps k (rw e at h) }
+    ∙ taken-only (take n ms) (drop n ms) (g .verdicts) k (verdicts-long [] (take n ms) (p .store)) in
+    rw e (judged-chain [] (take n ms) p fit)
+
+-- no member is an EXEC
+pub none-accepts : (i : ℕ) (ms : List Pending) (vs : Bytes) → NoneAccepted i (acceptedIn ms vs)
+unfolding acceptedIn
+none-accepts i [] vs = tt
+none-accepts i (m ∷ ms) [] = tt
+none-accepts i (m ∷ ms) (v ∷ vs) = go (eqb v 0) (none-accepts i ms vs)
+  where
+    go : (b : Bool) → NoneAccepted i (acceptedIn ms vs) → NoneAccepted i (cond b (wrote (m .writes) ∷ acceptedIn ms vs) (acceptedIn ms vs))
+    go true h = (λ x. x, h)
+    go false h = h
+
+-- ALL OF IT
+module _ (ms : List Member) (parts : List ℕ) (text verdicts : Bytes) (p : State) (fit : Fit p) where
+  group-law : Law (grouped ms parts text verdicts) p (groupOn ms parts text verdicts p)
+  unfolding groupOn told touched
+  group-law = go (groupFits parts text ms verdicts) refl
+    where
+      ps : List Pending
+      ps = map (pendingOf parts text) ms
+
+      g : Finished
+      g = group (map (pendingOf parts text) ms) (p .store)
+
+      go : (b : Bool) → groupFits parts text ms verdicts ≡ b → Law (grouped ms parts text verdicts) p (groupOn ms parts text verdicts p)
+      go false e = rw (e, groupOn) (unmoved (grouped ms parts text verdicts) p 8 fit ended tt (λ z. omega arith) (λ i h e. tt))
+      go true e =
+          let a = after-group ps (p .store) (fit .sound) in
+          rw (e, groupOn) (record {
+            fit = store-fit p (g .store) fit a;
+            later = later-from (bound (withStoreOf (g .store) p)) (a .later);
+            chain = group-chain ps p fit;
+            touches = record { store = λ z. absurd (false≢true (sym z)); sessions = λ j k n. refl; small = tt };
+            not-nine = λ z. omega arith;
+            watch = λ i h. same-keeps-watch i h p (withStoreOf (g .store) p) fit refl;
+            stale = λ i h z. none-accepts i ps _;
+            own = λ i j z h n. refl;
+            outside = λ i h z n. n;
+          })
+
+module _ (i : ℕ) (p q : State) (same : SameOn i p q) where
+  group-same : (ms : List Member) (parts : List ℕ) (d v : Bytes) → SameOnBoth i (groupOn ms parts d v p) (groupOn ms parts d v q)
+  unfolding groupOn
+  group-same ms parts d v = go (groupFits parts d ms v)
+    where
+      ps : List Pending
+      ps = map (pendingOf parts d) ms
+
+      by : Bool → State → Stepped
+      by b r = elim b [
+        | false ↦ record { outcome = refused 8; state = r }
+        | true ↦ let g = group (map (pendingOf parts d) ms) (r .store) in record { outcome = judged g; state = record { store = g .store; sessions = r .sessions } }
+      ]
+
+      go : (b : Bool) → SameOnBoth i (by b p) (by b q)
+      go false = record { answer = refl; left = same }
+      go true = record {
+        answer = ap (λ (x : Store). judged (group ps x)) (same .store);
+        left = record { store = ap (λ (x : Store). group ps x .store) (same .store); sessions = same .sessions };
+      }
+
+group-first : (ms : List Member) (parts : List ℕ) (d v : Bytes) (l : Lent) (p : State) → valid l ≡ true → (firstNumber (grouped ms parts d v) l ≡ 0 → ⊥)
+    → groupOn ms parts d v p ≡ record { outcome = refused (firstNumber (grouped ms parts d v) l); state = p }
+unfolding firstNumber
+group-first ms parts d v l p ok n = rw fits (go (groupFits parts d ms v) refl (rw fits at n))
+  where
+    fits : validStore (l .words) (l .bytes) ≡ true
+    fits = unfold valid in and-left (validStore (l .words) (l .bytes)) _ ok
+
+    go : (b : Bool) → groupFits parts d ms v ≡ b → (_≡_ {A = ℕ} (cond b 0 8) 0 → ⊥) → groupOn ms parts d v p ≡ record { outcome = refused (cond b 0 8); state = p }
+    go true e n = absurd (n refl)
+    go false e n = unfold groupOn in rw (e, groupOn)
+
+group-fed : (ms : List Member) (parts : List ℕ) (d v : Bytes) (o p : Outcome) → o .number ≡ p .number → o .verdicts ≡ p .verdicts → told (grouped ms parts d v) o ≡ told (grouped ms parts d v) p
+unfolding told
+group-fed ms parts d v o p n w = λ z. told (grouped ms parts d v) (outcomeOf (n z) 0 [] (w z))
+
+group-numbers : (ms : List Member) (parts : List ℕ) (d v : Bytes) (o : Outcome) (ds : List Client) → (o .number ≡ 0 → ⊥) → enterAll (told (grouped ms parts d v) o) ds .items ≡ []
+unfolding enterAll told
+group-numbers ms parts d v o ds h = rw (ne-eqb (o .number) 0 h)
+
+pub group-kind : (ms : List Member) (parts : List ℕ) (d v : Bytes) → Kind (grouped ms parts d v)
+unfolding step
+group-kind ms parts d v = record {
+  law = group-law ms parts d v;
+  first = group-first ms parts d v;
+  fed = λ o p n r w. group-fed ms parts d v o p n w;
+  numbers = group-numbers ms parts d v;
+  answers = λ i p e. absurd (false≢true e);
+  other = λ i p q f g same e. group-same i p q same ms parts d v;
+  own = λ i p q ds f g c same free e. absurd (false≢true e);
+}

@@ -2,7 +2,7 @@
 use Prim.Native.Nat.{ℕ, _≤_, _<_}
 use native.Mathlib.Omega.{arith}
 use mathlib.Core.Logic.{⊎-elim}
-use mathlib.Core.List.{List, map}
+use mathlib.Core.List.{List}
 use mathlib.Core.Bool.{Bool, true, false, cond}
 use mathlib.Core.Path.{_≡_, refl, sym, subst}
 use lib.Dec.{ltb, eqb}
@@ -13,16 +13,13 @@ use Rattle.memtable.specs.Versions.{Store}
 use Rattle.memtable.specs.Layout.{validStore, leaveWords, leaveBytes}
 use Rattle.memtable.proofs.VersionLaws.{Sound}
 use Rattle.memtable.proofs.LayoutLaws.{store-back, leave-valid, Fits, valid-fits, valid-sound}
-use Rattle.batch.specs.declared.Member.{Member}
-use Rattle.batch.specs.Group.{group}
-use Rattle.batch.specs.Members.{groupFits, pendingOf}
-use Rattle.batch.proofs.GroupLaws.{After}
 use Rattle.server.proofs.SessionLaws.{SessionSound}
-use Rattle.server.proofs.LayoutLaws.{Sixteen, sixteen, sixteen-valid, each-sound, own-back, others-back, still-sixteen, sixteen-later}
+use Rattle.server.proofs.LayoutLaws.{Sixteen, sixteen, sixteen-valid, each-sound, own-back, others-back, still-sixteen}
 use Rattle.server.specs.Finish.{Served}
 use Rattle.calls.specs.Serve.{serve, refused, answered}
-use Rattle.calls.specs.Calls.{Lent, valid, storeOf, sessionOf, withStore, leaveStore, leaveSession, leaveServed, request-call, judged, group-call, grouped, call}
+use Rattle.calls.specs.Calls.{Lent, valid, storeOf, sessionOf, leaveStore, leaveSession, leaveServed, request-call}
 use Rattle.calls.proofs.ServeLaws.{ServeKept, serve-kept}
+use Rattle.calls.proofs.MovedLaws.{LaterFrom, later-from}
 
 -- what validity tells
 pub record Valid (l : Lent) : Type 0 where
@@ -44,13 +41,12 @@ pub session-good : (l : Lent) → Valid l → (i : ℕ) → i < 16 → SessionSo
 session-good l v i h = each-sound (storeOf l .last) (l .sessionWords) (l .sessionBytes) (v .sessions) i h
 
 -- a store written back beside valid sessions
-store-valid : (l : Lent) (st : Store) (sw : List ℕ) (sb : Bytes) → Valid l → After (storeOf l) st → Sixteen (st .last) sw sb
+pub store-valid : (m : ℕ) (l : Lent) (st : Store) (sw : List ℕ) (sb : Bytes) → Valid l → Sound st → LaterFrom m (storeOf l) st → Sixteen (st .last) sw sb
     → valid (record { words = leaveWords st (l .words); bytes = leaveBytes st (l .bytes); sessionWords = sw; sessionBytes = sb }) ≡ true
 unfolding valid
-store-valid l st sw sb v a s =
+store-valid m l st sw sb v sound g s =
     let f = v .fits in
-    let g = a .later in
-    and-both _ _ (leave-valid st (l .words) (l .bytes) (a .sound) (omega (arith, f .words, g .mostVersions)) (omega (arith, f .bytes, g .mostBytes)))
+    and-both _ _ (leave-valid st (l .words) (l .bytes) sound (omega (arith, f .words, g .mostVersions)) (omega (arith, f .bytes, g .mostBytes)))
     (rw (store-back st (l .words) (l .bytes)) (sixteen-valid (st .last) sw sb s))
 
 -- WHAT A SERVED REQUEST LEAVES.
@@ -77,7 +73,7 @@ module _ (i : ℕ) (h : i < 16) (l : Lent) (ok : valid l ≡ true) (d : Served) 
       let grown = k .store .later .lasts in
       let g = v .sessions in
       record {
-        fit = store-valid l (d .store) _ _ v (k .store) (still-sixteen last sw sb g i h next grown (d .session) (k .session));
+        fit = store-valid 0 l (d .store) _ _ v (k .store .sound) (later-from 0 (k .store .later)) (still-sixteen last sw sb g i h next grown (d .session) (k .session));
         store = store-back (d .store) (l .words) (l .bytes);
         own = own-back last sw sb g i h next grown (d .session) (k .session);
         others = λ j p n. others-back last sw sb g i h next grown (d .session) (k .session) j p n;
@@ -133,30 +129,3 @@ pub request-leaves : (i : ℕ) (input : Bytes) (places room : ℕ) (l : Lent) �
 request-leaves i input places room l h ok =
     let v = valid-parts l ok in
     served-leaves i h l ok (servedBy i input places room l) (serve-kept (storeOf l) (sessionOf i l) (v .sound) (session-good l v i h) places room input)
-
--- A GROUP on valid lent state: refused with 8, or judged.
-pub record GroupLeaves (l : Lent) (st : Store) (l′ : Lent) : Type 0 where
-  pub fit : valid l′ ≡ true
-  pub store : storeOf l′ ≡ st
-  pub sessions : (j : ℕ) → sessionOf j l′ ≡ sessionOf j l
-
-pub judged-leaves : (l : Lent) (st : Store) → valid l ≡ true → After (storeOf l) st → GroupLeaves l st (withStore (leaveWords st (l .words)) (leaveBytes st (l .bytes)) l)
-judged-leaves l st ok a =
-    let v = valid-parts l ok in
-    record {
-      fit = store-valid l st (l .sessionWords) (l .sessionBytes) v a (sixteen-later _ _ (a .later .lasts) _ _ (v .sessions));
-      store = store-back st (l .words) (l .bytes);
-      sessions = λ j. refl;
-    }
-
-pub group-judged : (ms : List Member) (parts : List ℕ) (d verdicts : Bytes) (l : Lent) → valid l ≡ true → groupFits parts d ms verdicts ≡ true
-    → call (grouped ms parts d verdicts) l
-    ≡ (let g = group (map (pendingOf parts d) ms) (storeOf l) in
-    record { outcome = judged g; lent = withStore (leaveWords (g .store) (l .words)) (leaveBytes (g .store) (l .bytes)) l })
-unfolding call group-call valid
-group-judged ms parts d verdicts l ok f = rw (and-left (validStore (l .words) (l .bytes)) _ ok, f, group-call)
-
-pub group-refused : (ms : List Member) (parts : List ℕ) (d verdicts : Bytes) (l : Lent) → valid l ≡ true → groupFits parts d ms verdicts ≡ false
-    → call (grouped ms parts d verdicts) l ≡ record { outcome = refused 8; lent = l }
-unfolding call group-call valid
-group-refused ms parts d verdicts l ok f = rw (and-left (validStore (l .words) (l .bytes)) _ ok, f, group-call)

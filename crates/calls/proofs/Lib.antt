@@ -1,13 +1,17 @@
 -- The laws of this crate.
+pub mod AnswerLaws
 pub mod CallLaws
 pub mod CaptureLaws
 pub mod CommandLaws
 pub mod CounterLaws
 pub mod Demand3Proved
+pub mod EventLaws
+pub mod EveryKind
 pub mod FollowLaws
 pub mod GroupLaws
 pub mod IsolationClaim
 pub mod IsolationLaws
+pub mod KindLaws
 pub mod LentLaws
 pub mod MadeLaws
 pub mod MarkLaws
@@ -17,6 +21,7 @@ pub mod Posting
 pub mod QuietLaws
 pub mod Refusals
 pub mod ReplyLaws
+pub mod RequestLaws
 pub mod ServeLaws
 pub mod StateClaim
 pub mod StateLaws

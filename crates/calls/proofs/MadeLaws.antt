@@ -17,13 +17,14 @@ use Rattle.batch.specs.Members.{groupFits, pendingOf}
 use Rattle.batch.proofs.GroupLaws.{verdicts-long}
 use Rattle.server.specs.declared.Answer.{Answer}
 use Rattle.server.specs.Finish.{Served, replyBuffer}
-use Rattle.calls.specs.Serve.{Outcome, refused, answered, serve}
-use Rattle.calls.specs.Calls.{Lent, lentOf, valid, storeOf, sessionOf, leaveServed, refuses, Called, StoreCalled, withStore, refusesStore, givesStore, judged, open-call, request-call, group-call, verdictBuffer, RequestPromise, GroupPromise, Call, call, outcomes, final}
+use Rattle.calls.specs.Serve.{Outcome, refused, outcomeOf, answered, serve}
+use Rattle.calls.specs.Calls.{Lent, lentOf, valid, storeOf, sessionOf, leaveServed, refuses, Called, StoreCalled, withStore, refusesStore, givesStore, judged, open-call, request-call, group-call, verdictBuffer, RequestPromise, GroupPromise, Call, outcomes, final}
 use Rattle.calls.specs.Demand3.{Opened, without, toOthers, SameBut, Unaltered, PostsNothing, keptCalls, keptOutcomes, NoneAccepted, UnalteredUntilExec, clientsAfter}
-use Rattle.calls.specs.Posting.{closedClients}
+use Rattle.calls.specs.Posting.{events, closedClients}
 use Rattle.calls.specs.Made.{requestSeen, groupSeen, Made, unmade, byRequest, byGroup, Holds, MadeClaim, OpensClaim, MadeIsolation, MadeUntilExec, MadeHolds}
 use Rattle.calls.proofs.Demand3Proved.{demand-3}
-use Rattle.calls.proofs.OpenLaws.{opens}
+use Rattle.calls.proofs.OpenLaws.{zeros-are-clear, opens}
+use Rattle.calls.proofs.StateLaws.{request-is, group-is}
 
 -- THE OUTCOME THAT THE CALLER SEES is the definition's. A reply in front of its buffer
 front : (room : ℕ) (s : Bytes) → take (length s) (replyBuffer room s) ≡ s
@@ -51,7 +52,7 @@ request-seen : {i : ℕ} {input : Bytes} {places : ℕ} {buffer : Bytes} {l : Le
 request-seen {i} {input} {places} {buffer} {l} {r} {buffer′} p =
     let o : Outcome = request-call i input places (length buffer) l .outcome in
     let e : take (r .reply) buffer′ ≡ o .reply = (λ z. take (p .answer z .reply) (p .reply z)) ∙ front (length buffer) (o .reply) in
-    λ z. record { number = p .answer z .number; used = p .answer z .used; reply = e z; verdicts = sym (no-verdicts i input places (length buffer) l) z }
+    λ z. outcomeOf (p .answer z .number) (p .answer z .used) (e z) (sym (no-verdicts i input places (length buffer) l) z)
 
 -- a verdict for each member
 all-verdicts : (ms : List Pending) (st : Store) → length (group ms st .verdicts) ≡ length ms
@@ -84,7 +85,7 @@ group-outcome ms parts d v w b = go (validStore w b) (groupFits parts d ms v)
     go : (x y : Bool) → groupSeen (by x y .outcome .number) ms (over-front (by x y .outcome .verdicts) v) ≡ by x y .outcome
     go false y = refl
     go true false = refl
-    go true true = ap (λ (s : Bytes). record { number = 0; used = 0; reply = []; verdicts = s }) (over-seen (map verdictByte (g .verdicts)) v (length ms) long)
+    go true true = ap (outcomeOf 0 0 []) (over-seen (map verdictByte (g .verdicts)) v (length ms) long)
 
 group-seen : {ms : List Member} {parts : List ℕ} {d v : Bytes} {w : List ℕ} {b : Bytes} {n : ℕ} {v′ : Bytes} {w′ : List ℕ} {b′ : Bytes}
     → GroupPromise ms parts d v w b n v′ w′ b′ → groupSeen n ms v′ ≡ group-call ms parts d v w b .outcome
@@ -96,22 +97,22 @@ record AsDefined (l : Lent) (cs : List Call) (os : List Outcome) (l′ : Lent) :
   left : l′ ≡ final cs l
 
 as-defined : {l l′ : Lent} (cs : List Call) (os : List Outcome) → Made l cs os l′ → AsDefined l cs os l′
-unfolding outcomes final call
+unfolding outcomes final
 as-defined [] os unmade = record { seen = refl; left = refl }
-as-defined {l} {l′} (c ∷ cs) os (byRequest {l₁ = l₁} {os = os′} p m) =
+as-defined {l} {l′} (c ∷ cs) os (byRequest {i = i} {input = input} {places = places} {buffer = buffer} {l₁ = l₁} {os = os′} p m) =
     let k = as-defined cs os′ m in
-    record {
-      seen = λ z. request-seen p z ∷ (k .seen ∙ ap (outcomes cs) (p .lent)) z;
-      left = k .left ∙ ap (final cs) (p .lent);
-    }
+    let e = sym (request-is i input places (length buffer) l) in
+    let seen = request-seen p ∙ ap (λ (x : Called). x .outcome) e in
+    let left = p .lent ∙ ap (λ (x : Called). x .lent) e in
+    record { seen = λ z. seen z ∷ (k .seen ∙ ap (outcomes cs) left) z; left = k .left ∙ ap (final cs) left }
 as-defined {l} {l′} (c ∷ cs) os (byGroup {ms = ms} {parts = parts} {d = d} {v = v} {w′ = w′} {b′ = b′} {os = os′} p m) =
     let k = as-defined cs os′ m in
     let g : StoreCalled = group-call ms parts d v (l .words) (l .bytes) in
-    let e : withStore w′ b′ l ≡ withStore (g .words) (g .bytes) l = λ z. withStore (p .words z) (p .bytes z) l in
-    record {
-      seen = λ z. group-seen p z ∷ (k .seen ∙ ap (outcomes cs) e) z;
-      left = k .left ∙ ap (final cs) e;
-    }
+    let e = sym (group-is ms parts d v l) in
+    let same : withStore w′ b′ l ≡ withStore (g .words) (g .bytes) l = λ z. withStore (p .words z) (p .bytes z) l in
+    let seen = group-seen p ∙ ap (λ (x : Called). x .outcome) e in
+    let left = same ∙ ap (λ (x : Called). x .lent) e in
+    record { seen = λ z. seen z ∷ (k .seen ∙ ap (outcomes cs) left) z; left = k .left ∙ ap (final cs) left }
 
 -- DEMAND 3 of them
 made-claim : MadeClaim
@@ -142,8 +143,8 @@ holds-told last versions size w b e = go (buffersHold w b versions size) e
     go false e = absurd (omega (arith, e))
 
 made-opens : OpensClaim
-made-opens last versions size w b w′ b′ n m h k p =
-    coe 1 0 (z. Opened (lentOf (p .words z) (p .bytes z) (replicate n 0) (replicate m 0))) (opens n m (omega (arith, h)) (omega (arith, k)) last versions size w b (holds-told last versions size w b (p .number)))
+made-opens last versions size w b w′ b′ sw sb ok clears p =
+    coe 1 0 (z. Opened (lentOf (p .words z) (p .bytes z) sw sb)) (opens last versions size w b (holds-told last versions size w b (p .number)) sw sb ok clears)
 
 -- the sentence on other sessions
 made-isolation : MadeIsolation
@@ -168,11 +169,11 @@ made-until-exec l l₁ l₂ m m₂ before cs os₁ os₂ os′ i o a c fit same 
     let seen : os₂ ≡ outcomes cs (final before l) = n .seen ∙ ap (outcomes cs) (k .left) in
     let r = as-defined (keptCalls i cs os₂ ds) os′ d in
     let u : UnalteredUntilExec i cs ds (final before l) m =
-    demand-3 .untilExec before cs l m i o fit (coe 0 1 (z. SameBut i (k .left z) m) same) free (coe 0 1 (z. NoneAccepted i cs (seen z)) none) in
+    demand-3 .untilExec before cs l m i o fit (coe 0 1 (z. SameBut i (k .left z) m) same) free (coe 0 1 (z. NoneAccepted i (events cs (seen z))) none) in
     record {
       answers = ap (λ (os : List Outcome). keptOutcomes i cs os ds) seen ∙ u .answers ∙ ap (λ (os : List Outcome). outcomes (keptCalls i cs os ds) m) (sym seen) ∙ sym (r .seen);
       left = coe 1 0 (z. SameBut i ((n .left ∙ ap (final cs) (k .left)) z) ((r .left ∙ ap (λ (os : List Outcome). final (keptCalls i cs os ds) m) seen) z)) (u .left);
     }
 
 pub made : MadeHolds
-made = record { opens = made-opens; claim = made-claim; isolation = made-isolation; untilExec = made-until-exec }
+made = record { opens = made-opens; zero = zeros-are-clear; claim = made-claim; isolation = made-isolation; untilExec = made-until-exec }

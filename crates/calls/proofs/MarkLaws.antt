@@ -22,7 +22,7 @@ use Rattle.server.specs.Command.{Executed, runs, lists, Effect, setOptions, exe
 use Rattle.server.specs.Session.{Watching, watchedKeys, Session, clear, Result, number, reply, Done, says, returns, committed, direct, addKeys, watchFits, watching, outsideMulti, queueFits, queuedReply, marked, enqueue, queueUp, notQueueable, execute, insideMulti, respondBy, respond}
 use Rattle.server.proofs.SessionLaws.{SessionSound, Refuses, Kept, respond-kept, ranBy, writesBy, ends, execute-failed, execute-ends}
 use Rattle.server.specs.Finish.{Served, silent, fitted, finishBy, finish}
-use Rattle.calls.specs.Serve.{protocolError, serveReading, serve, answered}
+use Rattle.calls.specs.Serve.{protocolError, serveReading, serve}
 use Rattle.calls.specs.Posting.{broken, asks, askedBy, isReply}
 use Rattle.calls.specs.Verdicts.{queues, isOpen, marksBy, markedAfter}
 use Rattle.calls.proofs.ReplyLaws.{queued-told, error-not-queued}
@@ -149,12 +149,12 @@ module _ (st : Store) (s : Session) (sound : Sound st) (good : SessionSound (st 
       go (some q) n = inside-marks a q (controlOf (rowOf (nameWord a) .name)) (rowOf (nameWord a)) n
 
   finish-marks : (a : Args) (room used : ℕ) (x : Done) → Kept st s x → Marked (controlOf (rowOf (nameWord a) .name)) (isOpen (s .queue)) x
-      → MarkedAs (finish room used x st s .session) (marksBy (s .queue) (asks a) (answered (finish room used x st s)))
+      → MarkedAs (finish room used x st s .session) (marksBy (s .queue) (asks a) (finish room used x st s .number) (finish room used x st s .reply))
   unfolding finish
   finish-marks a room used x k h = go (x .result) h (k .numbers)
     where
       ServedMarks : Served → Type 0
-      ServedMarks v = MarkedAs (v .session) (marksBy (s .queue) (asks a) (answered v))
+      ServedMarks v = MarkedAs (v .session) (marksBy (s .queue) (asks a) (v .number) (v .reply))
 
       fits : (r : Reply) → MarkedAs (x .session) (isOpen (s .queue) && told (controlOf (rowOf (nameWord a) .name)) (reply r)) → (t : Bool)
           → ServedMarks (cond t (record { number = 0; used = used; reply = encode r; store = x .store; session = x .session }) (silent 3 0 st s))
@@ -166,19 +166,19 @@ module _ (st : Store) (s : Session) (sound : Sound st) (good : SessionSound (st 
       go (number n) g m = unfold finishBy in (rw (ne-eqb n 0 (λ z. omega (arith, m .0, z)), or-false (eqb n 4)) g)
       go (reply r) g m = unfold finishBy fitted in fits r g (leb (length (encode r)) room)
 
-  broken-marks : (room used : ℕ) (r : Reply) → MarkedAs (finish room used (says r st clear) st s .session) (marksBy (s .queue) broken (answered (finish room used (says r st clear) st s)))
+  broken-marks : (room used : ℕ) (r : Reply) → MarkedAs (finish room used (says r st clear) st s .session) (marksBy (s .queue) broken (finish room used (says r st clear) st s .number) (finish room used (says r st clear) st s .reply))
   unfolding finish finishBy fitted markedAfter
   broken-marks room used r = go (leb (length (encode r)) room)
     where
       v : Bool → Served
       v t = cond t (record { number = 0; used = used; reply = encode r; store = st; session = clear }) (silent 3 0 st s)
 
-      go : (t : Bool) → MarkedAs (v t .session) (marksBy (s .queue) broken (answered (v t)))
+      go : (t : Bool) → MarkedAs (v t .session) (marksBy (s .queue) broken (v t .number) (v t .reply))
       go true = refl
       go false = stays s refl refl _ (and-false (isOpen (s .queue)))
 
   reading-marks : (room : ℕ) (input : Bytes) (x : Reading)
-      → MarkedAs (serveReading room input x st s .session) (marksBy (s .queue) (askedBy input x) (answered (serveReading room input x st s)))
+      → MarkedAs (serveReading room input x st s .session) (marksBy (s .queue) (askedBy input x) (serveReading room input x st s .number) (serveReading room input x st s .reply))
   unfolding serveReading askedBy
   reading-marks room input waits = stays s refl refl _ (and-false (isOpen (s .queue)))
   reading-marks room input tooMany = stays s refl refl _ (and-false (isOpen (s .queue)))
@@ -188,6 +188,6 @@ module _ (st : Store) (s : Session) (sound : Sound st) (good : SessionSound (st 
       finish-marks (map (spanned input) (p ∷ ps)) room used _ (respond-kept st s sound good (spanned input p) (map (spanned input) ps)) (respond-marks (map (spanned input) (p ∷ ps)))
 
   pub serve-marks : (places room : ℕ) (input : Bytes)
-      → MarkedAs (serve places room input st s .session) (marksBy (s .queue) (askedBy input (readRequest places input)) (answered (serve places room input st s)))
+      → MarkedAs (serve places room input st s .session) (marksBy (s .queue) (askedBy input (readRequest places input)) (serve places room input st s .number) (serve places room input st s .reply))
   unfolding serve
   serve-marks places room input = reading-marks room input (readRequest places input)

@@ -3,7 +3,8 @@ use Prim.Native.Nat.{ℕ, suc, max, _≤_, _<_}
 use native.Mathlib.Omega.{arith}
 use mathlib.Core.Bool.{Bool, true, false, cond, _||_, false≢true}
 use mathlib.Core.List.{List, [], _∷_}
-use mathlib.Core.Path.{_≡_, refl, sym, _∙_}
+use mathlib.Core.Path.{_≡_, refl, sym, ap, _∙_}
+use lib.Dec.{ltb}
 use Rattle.key.specs.Keys.{Key, sameKey}
 use Rattle.key.proofs.Bytes.{or-cases}
 use Rattle.memtable.specs.Table.{Write, Table, keysOf}
@@ -51,7 +52,7 @@ newest-keeps v (u ∷ vs) k e = go (before u v) refl (newest-keeps v vs k e)
     go false p ih = rw (p, insert, e)
 
 -- two tests of which none holds
-neither-test : (a b : Bool) → (a || b) ≡ false → (a ≡ false) × (b ≡ false)
+pub neither-test : (a b : Bool) → (a || b) ≡ false → (a ≡ false) × (b ≡ false)
 neither-test true b e = absurd (false≢true (sym e))
 neither-test false b e = (refl, e)
 
@@ -62,9 +63,35 @@ commit-keeps (w ∷ ws) st k h =
     let n = neither-test (sameKey (w .0) k) (among (keysOf ws) k) h in
     commit-keeps ws (commitOne w st) k (n .1) ∙ newest-keeps (record { key = w .0; seq = suc (st .last); value = w .1 }) (st .versions) k (n .0)
 
--- what has moved stays so in a later store, and counted from an earlier one
-pub moved-later : (a b : ℕ) (st after : Store) (k : Key) → a ≤ b → Later st after → moved b (st .versions) k ≡ true → moved a (after .versions) k ≡ true
-moved-later a b st after k h l e = above-moved a (after .versions) k (omega (arith, moved-above b (st .versions) k e, l .newests k))
+-- WHAT A STEP KEEPS, said for every sequence at or above m: a newest version above m stays, or a newer one takes its place
+pub record LaterFrom (m : ℕ) (earlier later : Store) : Type 0 where
+  pub lasts : earlier .last ≤ later .last
+  pub newests : (k : Key) → m < newest (earlier .versions) k → newest (earlier .versions) k ≤ newest (later .versions) k
+  pub mostVersions : later .mostVersions ≡ earlier .mostVersions
+  pub mostBytes : later .mostBytes ≡ earlier .mostBytes
+
+-- where nothing has gone back it holds from any sequence on
+pub later-from : (m : ℕ) {a b : Store} → Later a b → LaterFrom m a b
+later-from m l = record { lasts = l .lasts; newests = λ k h. l .newests k; mostVersions = l .mostVersions; mostBytes = l .mostBytes }
+
+pub from-trans : (m n : ℕ) {a b c : Store} → m ≤ n → LaterFrom m a b → LaterFrom n b c → LaterFrom n a c
+from-trans m n h p q = record {
+  lasts = omega (arith, p .lasts, q .lasts);
+  newests = λ k x. let y = p .newests k (omega (arith, h, x)) in omega (arith, y, q .newests k (omega (arith, x, y)));
+  mostVersions = q .mostVersions ∙ p .mostVersions;
+  mostBytes = q .mostBytes ∙ p .mostBytes;
+}
+
+-- what has moved since a sequence at or above m stays so in a later store, and counted from an earlier one
+pub moved-later : (m a b : ℕ) (st after : Store) (k : Key) → a ≤ b → m ≤ b → LaterFrom m st after → moved b (st .versions) k ≡ true → moved a (after .versions) k ≡ true
+moved-later m a b st after k h n l e =
+    let x = moved-above b (st .versions) k e in
+    above-moved a (after .versions) k (omega (arith, x, h, l .newests k (omega (arith, x, n))))
+
+-- a key that keeps its newest version has moved as before, whatever the sequence
+pub moved-kept : (n : ℕ) (vs us : List Version) (k : Key) → newest us k ≡ newest vs k → moved n us k ≡ moved n vs k
+unfolding moved
+moved-kept n vs us k e = ap (ltb n) e
 
 -- the keys of a history, item by item
 pub no-keys : {A : Type 0} (t : Table) (k : Key) → among (writtenIn [] t) k ≡ true → A

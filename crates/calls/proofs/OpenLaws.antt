@@ -1,4 +1,4 @@
--- Opening: an opened store beside zero session buffers is what the claims start from, whatever its last sequence and capacities.
+-- Opening: an opened store beside clear sessions is what the claims start from, whatever its last sequence and capacities.
 use Prim.Native.Nat.{ℕ, zero, suc, _+_, _-_, _*_, _≤_, _<_}
 use native.Mathlib.Omega.{arith}
 use mathlib.Core.List.{List, _∷_}
@@ -14,13 +14,14 @@ use Rattle.memtable.specs.Layout.{storeIn, buffersHold, validStore, leaveWords,
 use Rattle.memtable.proofs.VersionLaws.{Sound}
 use Rattle.memtable.proofs.LayoutLaws.{store-back, leave-valid}
 use Rattle.server.specs.Session.{clear}
-use Rattle.server.specs.Sessions.{splitBy, keysIn, queueIn, paired, sessionFrom, noneAbove, allQueueable, allPositive, watchOk, queueOk, sessionOk, wordsOfSession, bytesOfSession, sessionAt}
+use Rattle.server.specs.Sessions.{splitBy, keysIn, queueIn, paired, sessionFrom, noneAbove, allQueueable, allPositive, watchOk, queueOk, sessionOk, wordsOfSession, bytesOfSession, sessionAt, validSessions}
 use Rattle.server.proofs.LayoutLaws.{Sixteen, sixteen-valid}
 use Rattle.calls.specs.Serve.{refused}
-use Rattle.calls.specs.Calls.{Lent, valid, storeOf, StoreCalled, givesStore, open-call}
+use Rattle.calls.specs.Calls.{Lent, lentOf, valid, storeOf, StoreCalled, givesStore, open-call}
 use Rattle.calls.specs.Demand3.{Opened}
+use Rattle.calls.specs.Made.{ZeroClaim}
 
-abbrev pub zeros : ℕ → List ℕ
+abbrev zeros : ℕ → List ℕ
 zeros n = replicate n 0
 
 -- parts of zeros
@@ -46,60 +47,57 @@ zero-ok : (last : ℕ) (w : List ℕ) (b : Bytes) → sessionOk last (0 ∷ 0 �
 unfolding sessionOk watchOk queueOk keysIn queueIn splitBy total noneAbove allPositive allQueueable _and_
 zero-ok last w b = refl
 
-module _ (n m : ℕ) (words : 10304 ≤ n) (bytes : 163840 ≤ m) where
+-- ZERO WORDS are clear sessions, whatever the bytes
+module _ (n : ℕ) (b : Bytes) (words : 10304 ≤ n) (bytes : 163840 ≤ length b) where
   own-words : (i : ℕ) → i < 16 → wordsOfSession i (zeros n) ≡ 0 ∷ 0 ∷ 0 ∷ 0 ∷ zeros 640
   unfolding wordsOfSession
   own-words i h = part-zeros (i * 644) 644 n (omega arith)
 
-  zeros-clear : (i : ℕ) → i < 16 → sessionAt i (zeros n) (zeros m) ≡ clear
+  zeros-clear : (i : ℕ) → i < 16 → sessionAt i (zeros n) b ≡ clear
   unfolding sessionAt
-  zeros-clear i h = ap (λ (w : List ℕ). sessionFrom w (bytesOfSession i (zeros m))) (own-words i h) ∙ zero-clear _ _
+  zeros-clear i h = ap (λ (w : List ℕ). sessionFrom w (bytesOfSession i b)) (own-words i h) ∙ zero-clear _ _
 
-  zeros-sixteen : (last : ℕ) → Sixteen last (zeros n) (zeros m)
+  zeros-sixteen : (last : ℕ) → Sixteen last (zeros n) b
   zeros-sixteen last = record {
     words = rw (length-replicate {A = ℕ} n 0) words;
-    bytes = rw (length-replicate {A = ℕ} m 0) bytes;
-    each = λ i h. ap (λ (w : List ℕ). sessionOk last w (bytesOfSession i (zeros m))) (own-words i h) ∙ zero-ok last _ _;
+    bytes = bytes;
+    each = λ i h. ap (λ (w : List ℕ). sessionOk last w (bytesOfSession i b)) (own-words i h) ∙ zero-ok last _ _;
   }
 
-  -- what the opening call leaves, beside zeros
-  abbrev openedLent : ℕ → ℕ → ℕ → List ℕ → Bytes → Lent
-  openedLent last versions size w b = record {
-    words = open-call last versions size w b .words;
-    bytes = open-call last versions size w b .bytes;
-    sessionWords = zeros n;
-    sessionBytes = zeros m;
-  }
+pub zeros-are-clear : ZeroClaim
+zeros-are-clear last n b words bytes = (sixteen-valid _ _ _ (zeros-sixteen n b (omega (arith, words)) (omega (arith, bytes)) last), zeros-clear n b (omega (arith, words)) (omega (arith, bytes)))
 
-  empty-sound : (last versions size : ℕ) → Sound (emptyStore last versions size)
+-- WHAT THE OPENING CALL LEAVES, beside valid sessions that are clear
+module _ (last versions size : ℕ) (w : List ℕ) (b : Bytes) (room : buffersHold w b versions size ≡ true) (sw : List ℕ) (sb : Bytes) where
+  abbrev openedLent : Lent
+  openedLent = lentOf (open-call last versions size w b .words) (open-call last versions size w b .bytes) sw sb
+
+  empty-sound : Sound (emptyStore last versions size)
   unfolding emptyStore versionsSize
-  empty-sound last versions size = record { seqs = tt; order = refl; counted = omega arith; sized = omega arith }
+  empty-sound = record { seqs = tt; order = refl; counted = omega arith; sized = omega arith }
 
-  empty-valid : (last versions size : ℕ) (w : List ℕ) (b : Bytes) → buffersHold w b versions size ≡ true
-      → validStore (leaveWords (emptyStore last versions size) w) (leaveBytes (emptyStore last versions size) b) ≡ true
+  empty-valid : validStore (leaveWords (emptyStore last versions size) w) (leaveBytes (emptyStore last versions size) b) ≡ true
   unfolding buffersHold emptyStore
-  empty-valid last versions size w b e =
-      leave-valid (emptyStore last versions size) w b (empty-sound last versions size)
-      (leb-true (5 + 4 * versions) (length w) (and-left _ _ e))
-      (leb-true size (length b) (and-right (leb (5 + 4 * versions) (length w)) _ e))
+  empty-valid =
+      leave-valid (emptyStore last versions size) w b empty-sound
+      (leb-true (5 + 4 * versions) (length w) (and-left _ _ room))
+      (leb-true size (length b) (and-right (leb (5 + 4 * versions) (length w)) _ room))
 
-  gives : (last versions size : ℕ) (w : List ℕ) (b : Bytes) → buffersHold w b versions size ≡ true
-      → open-call last versions size w b ≡ givesStore (refused 0) (emptyStore last versions size) w b
+  gives : open-call last versions size w b ≡ givesStore (refused 0) (emptyStore last versions size) w b
   unfolding open-call
-  gives last versions size w b e = rw e
+  gives = rw room
 
-  pub opened-store : (last versions size : ℕ) (w : List ℕ) (b : Bytes) → buffersHold w b versions size ≡ true → storeOf (openedLent last versions size w b) ≡ emptyStore last versions size
-  opened-store last versions size w b e =
-      ap (λ (x : StoreCalled). storeIn (x .words) (x .bytes)) (gives last versions size w b e) ∙ store-back (emptyStore last versions size) w b
+  opened-store : storeOf openedLent ≡ emptyStore last versions size
+  opened-store = ap (λ (x : StoreCalled). storeIn (x .words) (x .bytes)) gives ∙ store-back (emptyStore last versions size) w b
 
-  pub opens : (last versions size : ℕ) (w : List ℕ) (b : Bytes) → buffersHold w b versions size ≡ true → Opened (openedLent last versions size w b)
-  opens last versions size w b e =
+  pub opens : validSessions last sw sb ≡ true → ((i : ℕ) → i < 16 → sessionAt i sw sb ≡ clear) → Opened openedLent
+  opens ok clears =
       let st = emptyStore last versions size in
       record {
-        fit = rw (gives last versions size w b e) (unfold valid in and-both _ _ (empty-valid last versions size w b e) (rw (store-back st w b) (sixteen-valid _ _ _ (zeros-sixteen (st .last)))));
+        fit = rw gives (unfold valid in and-both _ _ empty-valid (rw (store-back st w b) (unfold emptyStore in ok)));
         last = last;
         versions = versions;
         size = size;
-        store = opened-store last versions size w b e;
-        sessions = zeros-clear;
+        store = opened-store;
+        sessions = clears;
       }

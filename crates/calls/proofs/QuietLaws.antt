@@ -8,16 +8,13 @@ use lib.Dec.{eqb}
 use lib.ListN.{getD}
 use borrow.Author.Tests.{eqb-true, ne-eqb}
 use Rattle.key.specs.Bytes.{Bytes}
-use Rattle.resp.specs.Request.{readRequest}
 use Rattle.resp.specs.Reply.{NilArray}
 use Rattle.server.specs.Names.{Args, Control, MULTI, EXEC, DISCARD, WATCH, UNWATCH, QUIT, other, controlOf, rowOf, nameWord}
 use Rattle.server.specs.Command.{executedOf}
 use Rattle.server.specs.Session.{execAbort}
-use Rattle.calls.specs.Serve.{Outcome}
-use Rattle.calls.specs.Calls.{Call, request, grouped}
-use Rattle.calls.specs.Posting.{Asked, nothing, broken, asks, askedBy, isReply, isArray, exec, Client, closed, Turn, onlyIf, turnExec, turnBy, turnAsked, enter}
+use Rattle.calls.specs.Posting.{Asked, nothing, broken, asks, asked, isReply, isArray, exec, Client, closed, Turn, onlyIf, turnExec, turnBy, turnAsked, enter}
 use Rattle.calls.specs.Verdicts.{isExec, asksExec}
-use Rattle.calls.specs.Demand3.{FedClaim, isCommand, asksCommand, Quiet}
+use Rattle.calls.specs.Demand3.{isCommand, asksCommand, Accepts}
 
 module _ (b : Bytes) (d : Client) where
   exec-quiet : (q : List Args) → (isArray b ≡ true → ⊥) → turnExec q b d .items ≡ []
@@ -64,33 +61,23 @@ module _ (b : Bytes) (d : Client) where
       let c = controlOf (rowOf (nameWord a) .name) in
       ap (λ (x : Option (List Args)). turnBy c x a b d .items) e ∙ closed-quiet c a n
 
-module _ (i : ℕ) (s : Bytes) (places room : ℕ) (o : Outcome) (ds : List Client) where
+module _ (i : ℕ) (x : Asked) (n : ℕ) (b : Bytes) (ds : List Client) where
   -- a request posts what its turn posts
-  request-quiet : (o .number ≡ 0 → turnAsked (askedBy s (readRequest places s)) (o .reply) (getD ds i closed) .items ≡ []) →
-      enter (request i s places room) o ds .items ≡ []
+  asked-quiet : (n ≡ 0 → turnAsked x b (getD ds i closed) .items ≡ []) → enter (asked i x n b) ds .items ≡ []
   unfolding enter
-  request-quiet h = go (eqb (o .number) 0) refl
+  asked-quiet h = go (eqb n 0) refl
     where
-      go : (t : Bool) → eqb (o .number) 0 ≡ t → enter (request i s places room) o ds .items ≡ []
-      go true e = rw (e, enter) (h (eqb-true (o .number) 0 e))
+      go : (t : Bool) → eqb n 0 ≡ t → enter (asked i x n b) ds .items ≡ []
+      go true e = rw (e, enter) (h (eqb-true n 0 e))
       go false e = rw (e, enter)
 
-number-quiet : (c : Call) (o : Outcome) (ds : List Client) → (o .number ≡ 0 → ⊥) → enter c o ds .items ≡ []
-unfolding enter
-number-quiet (request i s places room) o ds n = rw (ne-eqb (o .number) 0 n, enter)
-number-quiet (grouped ms parts d verdicts) o ds n = rw (ne-eqb (o .number) 0 n, enter)
+  -- and with a number nothing at all
+  pub number-entered : (n ≡ 0 → ⊥) → enter (asked i x n b) ds ≡ record { clients = ds; items = [] }
+  unfolding enter
+  number-entered h = rw (ne-eqb n 0 h, enter)
 
--- what posting reads of an outcome
-pub fed : FedClaim
-unfolding enter
-fed (request i s places room) o p ds n r v = λ z. enter (request i s places room) (record { number = n z; used = 0; reply = r z; verdicts = v z }) ds
-fed (grouped ms parts d verdicts) o p ds n r v = λ z. enter (grouped ms parts d verdicts) (record { number = n z; used = 0; reply = r z; verdicts = v z }) ds
+  pub asked-inside : (q : List Args) → getD ds i closed .queue ≡ some q → (Accepts i (asked i x n b) → ⊥) → enter (asked i x n b) ds .items ≡ []
+  asked-inside q e h = asked-quiet (λ z. asked-open b (getD ds i closed) x q e (λ y a. h (refl, z, y, a)))
 
-pub quiet : Quiet
-quiet = record {
-  inside = λ i s places room o ds q e n.
-      request-quiet i s places room o ds (λ z. asked-open (o .reply) (getD ds i closed) (askedBy s (readRequest places s)) q e (λ x a. n (refl, z, x, a)));
-  outside = λ i s places room o ds e n.
-      request-quiet i s places room o ds (λ z. asked-closed (o .reply) (getD ds i closed) (askedBy s (readRequest places s)) e n);
-  numbers = number-quiet;
-}
+  pub asked-outside : getD ds i closed .queue ≡ none → asksCommand x ≡ false → enter (asked i x n b) ds .items ≡ []
+  asked-outside e h = asked-quiet (λ z. asked-closed b (getD ds i closed) x e h)

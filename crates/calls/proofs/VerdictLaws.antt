@@ -8,7 +8,7 @@ use mathlib.Core.Option.{Option, none, some}
 use mathlib.Core.Path.{_≡_, refl, sym, ap, _∙_, subst}
 use lib.Dec.{leb, ltb}
 use lib.ListN.{length, getD}
-use borrow.Author.Tests.{ltb-true, eq-eqb, ne-eqb}
+use borrow.Author.Tests.{eq-eqb, ne-eqb}
 use Rattle.key.specs.Bytes.{Bytes}
 use Rattle.key.specs.Keys.{Key}
 use Rattle.resp.specs.Request.{Reading, waits, faulty, tooMany, whole, readRequest, spanned}
@@ -21,35 +21,27 @@ use Rattle.batch.specs.Group.{conflicts, hasRoom, hasSequences, judge, verdictA
 use Rattle.batch.proofs.KeyLists.{any-same, any-alike}
 use Rattle.server.specs.Names.{Args, rowOf, nameWord, Control, controlOf}
 use Rattle.server.specs.Sessions.{allQueueable}
-use Rattle.server.specs.Session.{Watching, watchedKeys, Session, Result, number, reply, Done, anyMoved, verdictExec, execute, insideMulti, respondBy, respond}
+use Rattle.server.specs.Session.{watchedKeys, Session, Result, number, reply, Done, anyMoved, verdictExec, execute, insideMulti, respondBy, respond}
 use Rattle.server.proofs.WatchLaws.{movedBy, any-moved}
 use Rattle.server.proofs.SessionLaws.{QueueHolds, SessionSound, Refuses, Kept, respond-kept, ranBy, writesBy, ends, execute-failed, execute-ends}
 use Rattle.server.specs.Finish.{Served, silent, fitted, finishBy, finish}
-use Rattle.calls.specs.Serve.{serveReading, serve, Outcome, answered}
-use Rattle.calls.specs.Calls.{Lent, valid, storeOf, sessionOf, Called, request-call, Call, request, grouped, call, outcomes}
-use Rattle.calls.specs.Posting.{askedBy, Client, closed, enter, closedClients, postAll}
-use Rattle.calls.specs.Verdicts.{marks, Transaction, newTransaction, staleIn, markedAfter, isExec, asksExec, Executes, conflicted, execReply, ExecPosted, VerdictsPosted}
-use Rattle.calls.specs.Demand3.{Opened, VerdictClaim}
+use Rattle.calls.specs.Serve.{serveReading, serve, State, sessionIn}
+use Rattle.calls.specs.Posting.{Asked, askedBy, Event, asked, wrote, Client, closed, enter, postAll}
+use Rattle.calls.specs.Verdicts.{marks, Transaction, staleIn, markedAfter, isExec, asksExec, conflicted, execReply, ExecPosted, ExecAnswered, VerdictsPosted}
 use Rattle.calls.proofs.FollowLaws.{Mirrors, read-now}
-use Rattle.calls.proofs.MarkLaws.{stays, serve-marks}
+use Rattle.calls.proofs.MarkLaws.{stays}
 use Rattle.calls.proofs.CommandLaws.{queue-replies}
-use Rattle.calls.proofs.WatchLaws.{is-exec, watchAt, late-step, opened-late}
-use Rattle.calls.proofs.LentLaws.{Valid, valid-parts, session-good, servedBy, request-served, request-refused, request-leaves}
-use Rattle.calls.proofs.IsolationLaws.{isolated}
-use Rattle.calls.proofs.Posting.{Clients, step-follows, opened-clients, opened-table}
+use Rattle.calls.proofs.WatchLaws.{is-exec, watchIn, happens-keeps-watch, late-by}
+use Rattle.calls.proofs.EventLaws.{Fit, StaleIs, AskedLaw, Happens, Chain, ended, after, Clients, event-follows}
 
 -- the reply that is due; a number only without a mark or a conflict
 abbrev Due : Bool → Bool → Table → List Args → Result → Type 0
 Due f c t q (number n) = (f || c) ≡ false
 Due f c t q (reply r) = r ≡ execReply f c t q
 
--- what a transaction tells of a store and a watch: the watched keys that have moved
-abbrev Tells : Store → Watching → (Key → Bool) → Type 0
-Tells st w stale = (k : Key) → stale k ≡ movedBy (st .versions) w k
-
 -- AN EXEC, BY ITS CAUSE, on a session that `d` mirrors
 module _ (st : Store) (s : Session) (sound : Sound st) (good : SessionSound (st .last) s) (d : Client) (m : Mirrors d s) (stale : Key → Bool)
-    (tells : Tells st (s .watch) stale) where
+    (tells : StaleIs st (s .watch) stale) where
   abbrev DueHere : Bool → List Args → Result → Type 0
   DueHere f q = Due f (conflicted stale d) (table (st .versions)) q
 
@@ -109,97 +101,69 @@ module _ (st : Store) (s : Session) (sound : Sound st) (good : SessionSound (st 
   reading-due q room input (whole (p ∷ ps) used) o e =
       finish-due q room used _ (respond-kept st s sound good (spanned input p) (map (spanned input) ps)) (respond-due (map (spanned input) (p ∷ ps)) q e o)
 
-  serve-due : (q : List Args) (places room : ℕ) (input : Bytes) → s .queue ≡ some q → asksExec (askedBy input (readRequest places input)) ≡ true → PostedHere q (serve places room input st s)
+  pub serve-due : (q : List Args) (places room : ℕ) (input : Bytes) → s .queue ≡ some q → asksExec (askedBy input (readRequest places input)) ≡ true → PostedHere q (serve places room input st s)
   unfolding serve
   serve-due q places room input = reading-due q room input (readRequest places input)
 
--- ONE CALL, for session i
-module _ (i : ℕ) (inside : i < 16) (l : Lent) (ds : List Client) (ok : valid l ≡ true) (g : Clients l ds) (free : sessionOf i l .queue ≡ none → sessionOf i l .failed ≡ false) where
-  v : Valid l
-  v = valid-parts l ok
+-- ONE EVENT, for session i
+module _ (i : ℕ) (inside : i < 16) (p q : State) (ds : List Client) (fit : Fit p) (g : Clients p ds) where
+  module _ (free : sessionIn i p .queue ≡ none → sessionIn i p .failed ≡ false) where
+    abbrev MarkedIn : Session → Bool → Type 0
+    MarkedIn t b = t .failed ≡ markedAfter (t .queue) (sessionIn i p .failed || b)
 
-  good : SessionSound (storeOf l .last) (sessionOf i l)
-  good = session-good l v i inside
+    same-marks : (t : Session) → t ≡ sessionIn i p → (b : Bool) → b ≡ false → MarkedIn t b
+    same-marks t e b n =
+        stays (p .store) (sessionIn i p) (fit .sound) (fit .each i inside) free t (ap (λ (x : Session). x .queue) e) (ap (λ (x : Session). x .failed) e) b n
 
-  abbrev MarkedIn : Session → Bool → Type 0
-  MarkedIn t b = t .failed ≡ markedAfter (t .queue) (sessionOf i l .failed || b)
+    own-marks : (x : Asked) (n : ℕ) (b : Bytes) → AskedLaw i x n b p q → MarkedIn (sessionIn i q) (marks i (asked i x n b) ds)
+    unfolding marks
+    own-marks x n b a = rw (eq-eqb i i refl, g .mirrors i inside .queue) (a .own inside .marks free)
 
-  same-marks : (t : Session) → t ≡ sessionOf i l → (b : Bool) → b ≡ false → MarkedIn t b
-  same-marks t e b n = stays (storeOf l) (sessionOf i l) (v .sound) good free t (ap (λ (x : Session). x .queue) e) (ap (λ (x : Session). x .failed) e) b n
+    event-marks : (e : Event) → Happens e p q → MarkedIn (sessionIn i q) (marks i e ds)
+    event-marks (wrote ws) w = unfold marks in same-marks _ (w .sessions i) false refl
+    event-marks (asked j x n b) a = go (ℕ-discrete j i)
+      where
+        go : Dec (j ≡ i) → MarkedIn (sessionIn i q) (marks i (asked j x n b) ds)
+        go (yes e) = subst (λ (m : ℕ). MarkedIn (sessionIn i q) (marks i (asked m x n b) ds)) (sym e) (own-marks x n b (subst (λ (m : ℕ). AskedLaw m x n b p q) e a))
+        go (no z) = same-marks _ (a .others i inside (λ e. z (sym e))) _ (unfold marks in rw (ne-eqb j i z))
 
-  own-marks : (s : Bytes) (places room : ℕ) → MarkedIn (sessionOf i (request-call i s places room l .lent)) (marks i (request i s places room) (request-call i s places room l .outcome) ds)
-  unfolding marks
-  own-marks s places room =
-      rw (request-served i s places room l inside ok, request-leaves i s places room l inside ok .own, eq-eqb i i refl, g .mirrors i inside .queue)
-      (serve-marks (storeOf l) (sessionOf i l) (v .sound) good free places room s)
+  event-due : (stale : Key → Bool) → StaleIs (p .store) (watchIn i p) stale → (e : Event) → Happens e p q → (r : List Args) → getD ds i closed .queue ≡ some r
+      → ExecAnswered i e (sessionIn i p .failed) (conflicted stale (getD ds i closed)) (table (p .store .versions)) r
+  event-due stale h (wrote ws) w r o = tt
+  event-due stale h (asked j x n b) a r o = λ own exec.
+      let c : AskedLaw i x n b p q = subst (λ (m : ℕ). AskedLaw m x n b p q) own a in
+      c .own inside .due exec r (sym (g .mirrors i inside .queue) ∙ o) (getD ds i closed) (g .mirrors i inside) stale h
 
-  call-marks : (c : Call) → MarkedIn (sessionOf i (call c l .lent)) (marks i c (call c l .outcome) ds)
-  unfolding call
-  call-marks (grouped ms parts d verdicts) = unfold marks in same-marks _ refl false refl
-  call-marks (request j s places room) = go (ℕ-discrete j i)
-    where
-      go : Dec (j ≡ i) → MarkedIn (sessionOf i (request-call j s places room l .lent)) (marks i (request j s places room) (request-call j s places room l .outcome) ds)
-      go (yes e) = subst (λ (n : ℕ). MarkedIn (sessionOf i (request-call n s places room l .lent)) (marks i (request n s places room) (request-call n s places room l .outcome) ds)) (sym e) (own-marks s places room)
-      go (no n) = same-marks _ (isolated .others j i s places room l ok inside (λ e. n (sym e))) _ (unfold marks in rw (ne-eqb j i n))
+-- EVENTS ONE AFTER ANOTHER. Session i is marked as posting has it, and its transaction tells of the store and its watch.
+pub record Tracks (i : ℕ) (p : State) (x : Transaction) : Type 0 where
+  pub failed : sessionIn i p .failed ≡ x .marked
+  pub free : sessionIn i p .queue ≡ none → sessionIn i p .failed ≡ false
+  pub tells : StaleIs (p .store) (watchIn i p) (x .stale)
 
-  call-due : (stale : Key → Bool) → Tells (storeOf l) (watchAt i l) stale → (c : Call) (q : List Args) → getD ds i closed .queue ≡ some q → Executes i c
-      → ExecPosted (sessionOf i l .failed) (conflicted stale (getD ds i closed)) (table (storeOf l .versions)) q (call c l .outcome .number) (call c l .outcome .reply)
-  unfolding call
-  call-due stale h (grouped ms parts d verdicts) q o e = absurd e
-  call-due stale h (request j s places room) q o e =
-      let d = servedBy i s places room l in
-      let served : request-call j s places room l .outcome ≡ answered d =
-      ap (λ (n : ℕ). request-call n s places room l .outcome) (e .0) ∙ ap (λ (x : Called). x .outcome) (request-served i s places room l inside ok) in
-      subst (λ (x : Outcome). ExecPosted (sessionOf i l .failed) (conflicted stale (getD ds i closed)) (table (storeOf l .versions)) q (x .number) (x .reply)) (sym served)
-      (serve-due (storeOf l) (sessionOf i l) (v .sound) good (getD ds i closed) (g .mirrors i inside) stale h q places room s (sym (g .mirrors i inside .queue) ∙ o) (e .1))
-
--- A LIST OF CALLS. Session i is marked as posting has it, and its transaction tells of the store and its watch.
-record Tracks (i : ℕ) (l : Lent) (x : Transaction) : Type 0 where
-  failed : sessionOf i l .failed ≡ x .marked
-  free : sessionOf i l .queue ≡ none → sessionOf i l .failed ≡ false
-  tells : Tells (storeOf l) (watchAt i l) (x .stale)
-
-verdicts-posted : (i : ℕ) (inside : i < 16) (cs : List Call) (l : Lent) (ds : List Client) (t : Table) (x : Transaction) → valid l ≡ true → Clients l ds
-    → t ≡ table (storeOf l .versions) → Tracks i l x → VerdictsPosted i cs (outcomes cs l) ds t x
-unfolding outcomes
-verdicts-posted i inside [] l ds t x ok g same h = tt
-verdicts-posted i inside (c ∷ cs) l ds t x ok g same h =
-    let f = step-follows l ds ok g c in
-    let l′ = call c l .lent in
-    let e = enter c (call c l .outcome) ds in
+pub verdicts-posted : (i : ℕ) (inside : i < 16) (es : List Event) (p r : State) (ds : List Client) (t : Table) (x : Transaction) → Fit p → Clients p ds
+    → t ≡ table (p .store .versions) → Tracks i p x → Chain es p r → VerdictsPosted i es ds t x
+verdicts-posted i inside [] p r ds t x fit g same h ended = tt
+verdicts-posted i inside (e ∷ es) p r ds t x fit g same h (after {q = q} y z c) =
+    let f = event-follows p q fit ds g e y in
     let mirror = f .clients .mirrors i inside in
-    let kept = call-marks i inside l ds ok g (h .free) c in (
-      (λ q o y. rw (same, ← (h .failed)) (call-due i inside l ds ok g (h .free) (x .stale) (h .tells) c q o y)),
-      verdicts-posted i inside cs l′ (e .clients) (postAll (e .items) t) _ (f .fit) (f .clients) (ap (postAll (e .items)) same ∙ f .tables) (record {
-        failed = kept ∙ (λ z. markedAfter (sym (mirror .queue) z) (h .failed z || marks i c (call c l .outcome) ds));
-        free = λ n. kept ∙ ap (λ (q : Option (List Args)). markedAfter q (sessionOf i l .failed || marks i c (call c l .outcome) ds)) n ∙ (unfold markedAfter in refl);
-        tells = λ k. ap (λ (y : Table). staleIn i k e y (x .stale k)) same ∙ late-step k i inside c l ds (x .stale k) ok g (h .tells k);
-      }),
+    let kept = event-marks i inside p q ds fit g (h .free) e y in (
+      (λ u o. rw (same, ← (h .failed)) (event-due i inside p q ds fit g (x .stale) (h .tells) e y u o)),
+      verdicts-posted i inside es q r (enter e ds .clients) (postAll (enter e ds .items) t) _ z (f .clients) (ap (postAll (enter e ds .items)) same ∙ f .tables) (record {
+        failed = kept ∙ (λ w. markedAfter (sym (mirror .queue) w) (h .failed w || marks i e ds));
+        free = λ n. kept ∙ ap (λ (u : Option (List Args)). markedAfter u (sessionIn i p .failed || marks i e ds)) n ∙ (unfold markedAfter in refl);
+        tells = λ k. ap (λ (u : Table). staleIn i k (enter e ds) u (x .stale k)) same ∙ late-by k i inside p q (enter e ds) (x .stale k) fit f (happens-keeps-watch i inside e p q fit y) (h .tells k);
+      }) c,
     )
 
 -- an EXEC of a session above 15 returns 1
-no-session-exec : (i : ℕ) → ltb i 16 ≡ false → (l : Lent) (c : Call) → Executes i c → call c l .outcome .number ≡ 1
-unfolding call
-no-session-exec i e l (grouped ms parts text verdicts) a = absurd a
-no-session-exec i e l (request j input places room) a =
-    ap (λ (m : ℕ). request-call m input places room l .outcome .number) (a .0) ∙ ap (λ (x : Called). x .outcome .number) (request-refused i input places room l e)
-
 one-posted : (f c : Bool) (t : Table) (q : List Args) (n : ℕ) (b : Bytes) → n ≡ 1 → ExecPosted f c t q n b
 one-posted f c t q n b e = record { replies = λ z. absurd (omega (arith, e, z)); comes-first = λ k. (λ z. omega (arith, e, z), λ z. omega (arith, e, z)) }
 
-no-session-verdicts : (i : ℕ) → ltb i 16 ≡ false → (cs : List Call) (l : Lent) (ds : List Client) (t : Table) (x : Transaction) → VerdictsPosted i cs (outcomes cs l) ds t x
-unfolding outcomes
-no-session-verdicts i e [] l ds t x = tt
-no-session-verdicts i e (c ∷ cs) l ds t x = (λ q o y. one-posted _ _ _ _ _ _ (no-session-exec i e l c y), no-session-verdicts i e cs _ _ _ _)
+module _ (i : ℕ) (above : ltb i 16 ≡ false) where
+  no-session-due : (e : Event) (p q : State) → Happens e p q → (f c : Bool) (t : Table) (r : List Args) → ExecAnswered i e f c t r
+  no-session-due (wrote ws) p q h f c t r = tt
+  no-session-due (asked j x n b) p q h f c t r = λ own exec. one-posted f c t r n b (h .none (ap (λ (m : ℕ). ltb m 16) own ∙ above) .0)
 
-opened-tracks : (i : ℕ) → i < 16 → (l : Lent) → Opened l → Tracks i l newTransaction
-opened-tracks i inside l o =
-    let s = o .sessions i inside in
-    record { failed = ap (λ (x : Session). x .failed) s; free = λ n. ap (λ (x : Session). x .failed) s; tells = λ k. opened-late k i inside l o }
-
-pub verdicts-caused : VerdictClaim
-verdicts-caused cs l o i = go (ltb i 16) refl
-  where
-    go : (b : Bool) → ltb i 16 ≡ b → VerdictsPosted i cs (outcomes cs l) closedClients [] newTransaction
-    go true p = verdicts-posted i (ltb-true i 16 p) cs l closedClients [] newTransaction (o .fit) (opened-clients l o) (sym (opened-table l o)) (opened-tracks i (ltb-true i 16 p) l o)
-    go false p = no-session-verdicts i p cs l closedClients [] newTransaction
+  pub no-session-verdicts : (es : List Event) (p r : State) (ds : List Client) (t : Table) (x : Transaction) → Chain es p r → VerdictsPosted i es ds t x
+  no-session-verdicts [] p r ds t x ended = tt
+  no-session-verdicts (e ∷ es) p r ds t x (after {q = q} h y c) = (λ u o. no-session-due e p q h _ _ _ u, no-session-verdicts es q r _ _ _ c)

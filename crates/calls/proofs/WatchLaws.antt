@@ -7,34 +7,29 @@ use mathlib.Core.Bool.{Bool, true, false, cond, _||_, _&&_, false≢true, or-tru
 use mathlib.Core.Option.{Option, none, some}
 use mathlib.Core.Path.{_≡_, refl, sym, ap, _∙_, subst}
 use lib.Dec.{leb, ltb}
-use lib.ListN.{length, getD}
-use borrow.Author.Tests.{ltb-true}
+use lib.ListN.{length}
 use Rattle.key.specs.Bytes.{Bytes}
 use Rattle.key.specs.Keys.{Key}
 use Rattle.key.proofs.Bytes.{neither}
 use Rattle.resp.specs.Request.{Reading, waits, faulty, tooMany, whole, readRequest, spanned}
 use Rattle.resp.specs.Reply.{Reply, Error, NilArray, encode}
 use Rattle.memtable.specs.Table.{Table}
-use Rattle.memtable.specs.Versions.{Store, newest, moved, table}
+use Rattle.memtable.specs.Versions.{Store, moved, table}
 use Rattle.memtable.proofs.VersionLaws.{moved-above, above-moved, Sound}
 use Rattle.batch.specs.declared.Verdict.{Verdict}
 use Rattle.batch.specs.declared.Verdict.the-variants.{Accepted, Conflict, NoRoom, NoSequence, NotTaken}
 use Rattle.batch.specs.Group.{among}
-use Rattle.batch.specs.Members.{groupFits}
 use Rattle.server.specs.Names.{Args, Row, rowOf, nameWord, Control, MULTI, EXEC, DISCARD, WATCH, UNWATCH, QUIT, other, controlOf}
 use Rattle.server.specs.Session.{Watching, watchedKeys, Session, Result, number, reply, Done, anyMoved, verdictExec, outsideMulti, execute, insideMulti, respondBy, respond}
 use Rattle.server.proofs.WatchLaws.{movedBy, moved-any, moved-later}
 use Rattle.server.proofs.SessionLaws.{WatchKept, watch-same, still-unmoved, ranBy, writesBy, exec-calm, ends, execute-failed, execute-ends}
 use Rattle.server.specs.Finish.{Served, silent, fitted, finishBy, finish}
-use Rattle.calls.specs.Serve.{serveReading, serve, Outcome, answered}
-use Rattle.calls.specs.Calls.{Lent, valid, storeOf, sessionOf, Called, leaveServed, request-call, Call, request, grouped, call, outcomes}
-use Rattle.calls.specs.Posting.{askedBy, isArray, Client, closed, enter, closedClients, postAll}
+use Rattle.calls.specs.Serve.{serveReading, serve, State, sessionIn}
+use Rattle.calls.specs.Posting.{askedBy, Event, asked, wrote, isArray, Client, Entered, enter, postAll}
 use Rattle.calls.specs.Verdicts.{isExec, asksExec, writtenIn, staleIn}
-use Rattle.calls.specs.Demand3.{Opened, Accepts, staleAfter, NoStaleExec, WatchClaim, NoStalePosted, PostedWatchClaim}
+use Rattle.calls.specs.Demand3.{Accepts, NoneAccepted, NoStalePosted}
 use Rattle.calls.proofs.ReplyLaws.{error-no-array, nil-array-no-array}
-use Rattle.calls.proofs.ServeLaws.{serve-kept}
-use Rattle.calls.proofs.LentLaws.{valid-parts, session-good, Leaves, servedBy, request-served, request-refused, request-leaves, group-judged, group-refused}
-use Rattle.calls.proofs.Posting.{Clients, step-follows, opened-clients, opened-table}
+use Rattle.calls.proofs.EventLaws.{Fit, Happens, Chain, ended, after, Clients, PostFollows, event-follows}
 
 pub is-exec : (c : Control) → isExec c ≡ true → c ≡ EXEC
 is-exec MULTI e = absurd (false≢true e)
@@ -108,66 +103,43 @@ module _ (st : Store) (s : Session) where
   reading-fresh room input (whole [] used) e a = absurd (false≢true e)
   reading-fresh room input (whole (p ∷ ps) used) e a = finish-fresh room used _ (respond-fresh (map (spanned input) (p ∷ ps)) e) a
 
-  serve-fresh : (places room : ℕ) (input : Bytes) → asksExec (askedBy input (readRequest places input)) ≡ true → isArray (serve places room input st s .reply) ≡ true → Calm
+  pub serve-fresh : (places room : ℕ) (input : Bytes) → asksExec (askedBy input (readRequest places input)) ≡ true → isArray (serve places room input st s .reply) ≡ true → Calm
   unfolding serve
   serve-fresh places room input = reading-fresh room input (readRequest places input)
 
--- WHAT A CALL DOES TO THE WATCH of session i
-abbrev pub watchAt : ℕ → Lent → Watching
-watchAt i l = sessionOf i l .watch
+-- THE WATCH of session i
+abbrev pub watchIn : ℕ → State → Watching
+watchIn i p = sessionIn i p .watch
 
-module _ (i : ℕ) (inside : i < 16) where
-  unmoved : (l : Lent) → valid l ≡ true → WatchKept (storeOf l) (watchAt i l) (watchAt i l)
-  unmoved l ok = watch-same (storeOf l) (sessionOf i l) (session-good l (valid-parts l ok) i inside)
+pub same-keeps-watch : (i : ℕ) (inside : i < 16) (p q : State) → Fit p → sessionIn i q ≡ sessionIn i p → WatchKept (p .store) (watchIn i p) (watchIn i q)
+same-keeps-watch i inside p q fit e =
+    subst (λ (s : Session). WatchKept (p .store) (watchIn i p) (s .watch)) (sym e) (watch-same (p .store) (sessionIn i p) (fit .each i inside))
 
-  -- every call keeps what has moved of the watch of session i
-  request-keeps-watch : (j : ℕ) (input : Bytes) (places room : ℕ) (l : Lent) → valid l ≡ true → WatchKept (storeOf l) (watchAt i l) (watchAt i (request-call j input places room l .lent))
-  request-keeps-watch j input places room l ok = go (ltb j 16) refl
-    where
-      go : (b : Bool) → ltb j 16 ≡ b → WatchKept (storeOf l) (watchAt i l) (watchAt i (request-call j input places room l .lent))
-      go false p = rw (request-refused j input places room l p) (unmoved l ok)
-      go true p =
-          let h = ltb-true j 16 p in
-          let v = valid-parts l ok in
-          let kept = serve-kept (storeOf l) (sessionOf j l) (v .sound) (session-good l v j h) places room input in
-          rw (request-served j input places room l h ok) (which (kept .watch) (request-leaves j input places room l h ok) (ℕ-discrete i j))
-        where
-          which : WatchKept (storeOf l) (sessionOf j l .watch) (servedBy j input places room l .session .watch)
-              → Leaves j l (servedBy j input places room l) (leaveServed j (servedBy j input places room l) l)
-              → Dec (i ≡ j) → WatchKept (storeOf l) (watchAt i l) (watchAt i (leaveServed j (servedBy j input places room l) l))
-          which r left (yes e) =
-              subst (λ (n : ℕ). WatchKept (storeOf l) (sessionOf n l .watch) (sessionOf n (leaveServed j (servedBy j input places room l) l) .watch)) (sym e)
-              (subst (λ (x : Session). WatchKept (storeOf l) (sessionOf j l .watch) (x .watch)) (sym (left .own)) r)
-          which r left (no n) = subst (λ (x : Session). WatchKept (storeOf l) (watchAt i l) (x .watch)) (sym (left .others i inside n)) (unmoved l ok)
+-- every event keeps what has moved of it
+pub happens-keeps-watch : (i : ℕ) (inside : i < 16) (e : Event) (p q : State) → Fit p → Happens e p q → WatchKept (p .store) (watchIn i p) (watchIn i q)
+happens-keeps-watch i inside (wrote ws) p q fit w = same-keeps-watch i inside p q fit (w .sessions i)
+happens-keeps-watch i inside (asked j x n b) p q fit a = go (ℕ-discrete i j)
+  where
+    go : Dec (i ≡ j) → WatchKept (p .store) (watchIn i p) (watchIn i q)
+    go (yes e) = rw e (a .own (omega (arith, e, inside)) .watch)
+    go (no z) = same-keeps-watch i inside p q fit (a .others i inside z)
 
-  pub call-keeps-watch : (c : Call) (l : Lent) → valid l ≡ true → WatchKept (storeOf l) (watchAt i l) (watchAt i (call c l .lent))
-  call-keeps-watch (request j input places room) l ok = unfold call in request-keeps-watch j input places room l ok
-  call-keeps-watch (grouped ms parts text verdicts) l ok = go (groupFits parts text ms verdicts) refl
-    where
-      go : (b : Bool) → groupFits parts text ms verdicts ≡ b → WatchKept (storeOf l) (watchAt i l) (watchAt i (call (grouped ms parts text verdicts) l .lent))
-      go false p = rw (group-refused ms parts text verdicts l ok p) (unmoved l ok)
-      go true p = rw (group-judged ms parts text verdicts l ok p) (unmoved l ok)
-
--- WHAT A CALL MOVES is what posting writes; every other key keeps its newest version.
+-- WHAT EVENTS MOVE is what posting writes; every other key has moved as before, counted from any sequence.
 module _ (st after : Store) (sound : Sound st) (written : List Key) (k : Key) (moves : among written k ≡ true → moved (st .last) (after .versions) k ≡ true)
-    (keeps : among written k ≡ false → newest (after .versions) k ≡ newest (st .versions) k) where
-  moved-kept : (n : ℕ) → among written k ≡ false → moved n (after .versions) k ≡ moved n (st .versions) k
-  unfolding moved
-  moved-kept n e = ap (ltb n) (keeps e)
-
+    (keeps : (n : ℕ) → among written k ≡ false → moved n (after .versions) k ≡ moved n (st .versions) k) where
   pub written-moved : moved (st .last) (after .versions) k ≡ among written k
   written-moved = go (among written k) refl
     where
       go : (b : Bool) → among written k ≡ b → moved (st .last) (after .versions) k ≡ among written k
       go true e = moves e ∙ sym e
-      go false e = moved-kept (st .last) e ∙ still-unmoved st sound k ∙ sym e
+      go false e = keeps (st .last) e ∙ still-unmoved st sound k ∙ sym e
 
   written-more : (n : ℕ) → n ≤ st .last → moved n (after .versions) k ≡ (moved n (st .versions) k || among written k)
   written-more n h = go (among written k) refl
     where
       go : (b : Bool) → among written k ≡ b → moved n (after .versions) k ≡ (moved n (st .versions) k || among written k)
       go true e = above-moved n (after .versions) k (omega (arith, moved-above (st .last) (after .versions) k (moves e))) ∙ sym (rw e (or-true (moved n (st .versions) k)))
-      go false e = moved-kept n e ∙ sym (rw e (or-false (moved n (st .versions) k)))
+      go false e = keeps n e ∙ sym (rw e (or-false (moved n (st .versions) k)))
 
   -- a watched key has moved exactly if it had, or is written
   pub moved-since : (w x : Watching) → WatchKept st w x → movedBy (after .versions) x k ≡ (among (watchedKeys x) k && (movedBy (st .versions) w k || among written k))
@@ -177,87 +149,48 @@ module _ (st after : Store) (sound : Sound st) (written : List Key) (k : Key) (m
       go true e = ap (λ (c : Bool). c || among written k) (r .moves k e)
       go false e = refl
 
-module _ (k : Key) where
-  module _ (i : ℕ) (inside : i < 16) where
-    -- A STALE KEY is watched, and has moved since its sequence.
-    abbrev Late : Lent → Bool → Type 0
-    Late l stale = stale ≡ movedBy (storeOf l .versions) (watchAt i l) k
+-- A STALE KEY is watched, and has moved since its sequence.
+abbrev pub Late : Key → ℕ → State → Bool → Type 0
+Late k i p stale = stale ≡ movedBy (p .store .versions) (watchIn i p) k
 
-    -- what a call makes of it
-    pub late-step : (c : Call) (l : Lent) (ds : List Client) (stale : Bool) → valid l ≡ true → Clients l ds → Late l stale
-        → Late (call c l .lent) (staleIn i k (enter c (call c l .outcome) ds) (table (storeOf l .versions)) stale)
-    late-step c l ds stale ok g h =
-        let f = step-follows l ds ok g c in
-        let l′ = call c l .lent in
-        let written = writtenIn (enter c (call c l .outcome) ds .items) (table (storeOf l .versions)) in
-        (λ z. f .clients .mirrors i inside .watched k z && (h z || among written k))
-        ∙ sym (moved-since (storeOf l) (storeOf l′) (valid-parts l ok .sound) written k (f .moves k) (f .keeps k) (watchAt i l) (watchAt i l′) (call-keeps-watch i inside c l ok))
+-- what events make of it: every sequence is at or above the bound, which is 0
+pub late-by : (k : Key) (i : ℕ) (inside : i < 16) (p q : State) (e : Entered) (stale : Bool) → Fit p → PostFollows p e q → WatchKept (p .store) (watchIn i p) (watchIn i q)
+    → Late k i p stale → Late k i q (staleIn i k e (table (p .store .versions)) stale)
+late-by k i inside p q e stale fit f r h =
+    let written = writtenIn (e .items) (table (p .store .versions)) in
+    (λ z. f .clients .mirrors i inside .watched k z && (h z || among written k))
+    ∙ sym (moved-since (p .store) (q .store) (fit .sound) written k (f .moves k (omega arith)) (λ n. f .keeps k n (omega arith)) (watchIn i p) (watchIn i q) r)
 
-    -- an accepted EXEC finds no stale key
-    accepts-fresh : (c : Call) (l : Lent) (stale : Bool) → valid l ≡ true → Late l stale → stale ≡ true → Accepts i c (call c l .outcome) → ⊥
-    accepts-fresh (grouped ms parts text verdicts) l stale ok h e a = a
-    accepts-fresh (request j input places room) l stale ok h e a =
-        let served : request-call i input places room l .outcome ≡ answered (servedBy i input places room l) = ap (λ (x : Called). x .outcome) (request-served i input places room l inside ok) in
-        let answer : isArray (servedBy i input places room l .reply) ≡ true =
-        ap (λ (x : Outcome). isArray (x .reply)) (sym served) ∙ ap (λ (n : ℕ). isArray (request-call n input places room l .outcome .reply)) (sym (a .0)) ∙ (unfold call in a .3) in
-        neither (moved-any (storeOf l .versions) (watchAt i l) k (sym h ∙ e)) (serve-fresh (storeOf l) (sessionOf i l) places room input (a .2) answer)
+module _ (k : Key) (i : ℕ) (inside : i < 16) where
+  -- an accepted EXEC finds no stale key
+  accepts-fresh : (e : Event) (p q : State) (stale : Bool) → Happens e p q → Late k i p stale → stale ≡ true → Accepts i e → ⊥
+  accepts-fresh (wrote ws) p q stale w h e a = a
+  accepts-fresh (asked j x n b) p q stale c h e a =
+      neither (moved-any (p .store .versions) (watchIn i p) k (sym h ∙ e))
+      (subst (λ (m : ℕ). anyMoved (p .store .versions) (watchIn m p) ≡ false) (a .0) (c .own (omega (arith, a .0, inside)) .fresh (a .2) (a .3)))
 
-    no-stale : (cs : List Call) (l : Lent) (ds : List Client) (stale : Bool) → valid l ≡ true → Clients l ds → Late l stale → NoStaleExec i k cs l ds stale
-    no-stale [] l ds stale ok g h = tt
-    no-stale (c ∷ cs) l ds stale ok g h =
-        let f = step-follows l ds ok g c in
-        let l′ = call c l .lent in
-        let e = enter c (call c l .outcome) ds in
-        let written = writtenIn (e .items) (table (storeOf l .versions)) in
-        let m = written-moved (storeOf l) (storeOf l′) (valid-parts l ok .sound) written k (f .moves k) (f .keeps k) in (
-          accepts-fresh c l stale ok h,
-          no-stale cs l′ (e .clients) (staleAfter i k c l ds stale) (f .fit) (f .clients)
-              (ap (λ (b : Bool). among (getD (e .clients) i closed .watched) k && (stale || b)) m ∙ late-step c l ds stale ok g h),
-        )
+  pub no-stale-posted : (es : List Event) (p r : State) (ds : List Client) (t : Table) (stale : Bool) → Fit p → Clients p ds → t ≡ table (p .store .versions)
+      → Late k i p stale → Chain es p r → NoStalePosted i k es ds t stale
+  no-stale-posted [] p r ds t stale fit g same h ended = tt
+  no-stale-posted (e ∷ es) p r ds t stale fit g same h (after {q = q} x y c) =
+      let f = event-follows p q fit ds g e x in (
+        accepts-fresh e p q stale x h,
+        no-stale-posted es q r (enter e ds .clients) (postAll (enter e ds .items) t) (staleIn i k (enter e ds) t stale) y (f .clients)
+            (ap (postAll (enter e ds .items)) same ∙ f .tables)
+            (ap (λ (u : Table). staleIn i k (enter e ds) u stale) same ∙ late-by k i inside p q (enter e ds) stale fit f (happens-keeps-watch i inside e p q fit x) h)
+            c,
+      )
 
-    -- the same by posting
-    no-stale-posted : (cs : List Call) (l : Lent) (ds : List Client) (t : Table) (stale : Bool) → valid l ≡ true → Clients l ds → t ≡ table (storeOf l .versions)
-        → Late l stale → NoStalePosted i k cs (outcomes cs l) ds t stale
-    unfolding outcomes
-    no-stale-posted [] l ds t stale ok g same h = tt
-    no-stale-posted (c ∷ cs) l ds t stale ok g same h =
-        let f = step-follows l ds ok g c in
-        let e = enter c (call c l .outcome) ds in (
-          accepts-fresh c l stale ok h,
-          no-stale-posted cs (call c l .lent) (e .clients) (postAll (e .items) t) (staleIn i k e t stale) (f .fit) (f .clients) (ap (postAll (e .items)) same ∙ f .tables)
-              (ap (λ (x : Table). staleIn i k e x stale) same ∙ late-step c l ds stale ok g h),
-        )
+-- a session above 15 gets no array
+module _ (i : ℕ) (above : ltb i 16 ≡ false) where
+  never-accepts : (e : Event) (p q : State) → Happens e p q → Accepts i e → ⊥
+  never-accepts (wrote ws) p q h a = a
+  never-accepts (asked j x n b) p q h a = omega (arith, h .none (ap (λ (m : ℕ). ltb m 16) (a .0) ∙ above) .0, a .1)
 
-    pub opened-late : (l : Lent) → Opened l → Late l false
-    opened-late l o = sym (ap (λ (x : Session). movedBy (storeOf l .versions) (x .watch) k) (o .sessions i inside) ∙ (unfold movedBy in refl))
+  pub none-accepted : (es : List Event) (p r : State) → Chain es p r → NoneAccepted i es
+  none-accepted [] p r ended = tt
+  none-accepted (e ∷ es) p r (after {q = q} h y c) = (never-accepts e p q h, none-accepted es q r c)
 
-  -- a session above 15 gets no array
-  never-accepts : (i : ℕ) → ltb i 16 ≡ false → (l : Lent) (c : Call) → Accepts i c (call c l .outcome) → ⊥
-  never-accepts i e l (grouped ms parts text verdicts) a = a
-  never-accepts i e l (request j input places room) a =
-      let n : request-call i input places room l .outcome .number ≡ 1 = ap (λ (x : Called). x .outcome .number) (request-refused i input places room l e) in
-      let z : request-call i input places room l .outcome .number ≡ 0 = ap (λ (m : ℕ). request-call m input places room l .outcome .number) (sym (a .0)) ∙ (unfold call in a .1) in
-      omega (arith, n, z)
-
-  no-session : (i : ℕ) → ltb i 16 ≡ false → (cs : List Call) (l : Lent) (ds : List Client) (stale : Bool) → NoStaleExec i k cs l ds stale
-  no-session i e [] l ds stale = tt
-  no-session i e (c ∷ cs) l ds stale = (λ s a. never-accepts i e l c a, no-session i e cs _ _ _)
-
-  no-session-posted : (i : ℕ) → ltb i 16 ≡ false → (cs : List Call) (l : Lent) (ds : List Client) (t : Table) (stale : Bool) → NoStalePosted i k cs (outcomes cs l) ds t stale
-  unfolding outcomes
-  no-session-posted i e [] l ds t stale = tt
-  no-session-posted i e (c ∷ cs) l ds t stale = (λ s a. never-accepts i e l c a, no-session-posted i e cs _ _ _ _)
-
-pub no-exec-after-move : WatchClaim
-no-exec-after-move cs l o i k = go (ltb i 16) refl
-  where
-    go : (b : Bool) → ltb i 16 ≡ b → NoStaleExec i k cs l closedClients false
-    go true p = no-stale k i (ltb-true i 16 p) cs l closedClients false (o .fit) (opened-clients l o) (opened-late k i (ltb-true i 16 p) l o)
-    go false p = no-session k i p cs l closedClients false
-
-pub no-exec-after-write : PostedWatchClaim
-no-exec-after-write cs l o i k = go (ltb i 16) refl
-  where
-    go : (b : Bool) → ltb i 16 ≡ b → NoStalePosted i k cs (outcomes cs l) closedClients [] false
-    go true p = no-stale-posted k i (ltb-true i 16 p) cs l closedClients [] false (o .fit) (opened-clients l o) (sym (opened-table l o)) (opened-late k i (ltb-true i 16 p) l o)
-    go false p = no-session-posted k i p cs l closedClients [] false
+  pub none-stale : (k : Key) (es : List Event) (ds : List Client) (t : Table) (stale : Bool) → NoneAccepted i es → NoStalePosted i k es ds t stale
+  none-stale k [] ds t stale n = tt
+  none-stale k (e ∷ es) ds t stale n = (λ s. n .0, none-stale k es _ _ _ (n .1))

@@ -1,9 +1,10 @@
 -- The published calls on lent words and bytes: what each returns, and every lent word and byte afterwards.
 -- The order of the numbers is 1, 9, 8, 2, 4, 5, 6, 7, 3.
-use Prim.Native.Nat.{ℕ, _/_}
-use mathlib.Core.Bool.{Bool, true, false, cond}
+use Prim.Native.Nat.{ℕ, zero, suc, _/_}
+use mathlib.Core.Bool.{Bool, true, false, cond, _||_}
 use mathlib.Core.List.{List, [], _∷_, map}
 use mathlib.Core.Path.{_≡_}
+use mathlib.Core.Option.{Option, none, some}
 use lib.Dec.{ltb, eqb}
 use lib.ListN.{length, take}
 use Rattle.key.specs.Bytes.{Bytes, _and_, over-front}
@@ -18,7 +19,7 @@ use Rattle.server.specs.Session.{Session}
 use Rattle.server.specs.Sessions.{sessionAt, validSessions, leaveSessionWords, leaveSessionBytes}
 use Rattle.server.specs.declared.Answer.{Answer}
 use Rattle.server.specs.Finish.{Served, replyBuffer}
-use Rattle.calls.specs.Serve.{serve, Outcome, refused, answered}
+use Rattle.calls.specs.Serve.{serve, State, sessionIn, Outcome, refused, outcomeOf, answered, Stepped, requestOn}
 
 -- the lent state: a store and sixteen sessions
 pub record Lent : Type 0 where
@@ -71,6 +72,10 @@ pub record StoreCalled : Type 0 where
   pub words : List ℕ
   pub bytes : Bytes
 
+-- the same on all lent memory: the sessions stay
+abbrev pub groupCalled : Lent → StoreCalled → Called
+groupCalled l g = record { outcome = g .outcome; lent = withStore (g .words) (g .bytes) l }
+
 -- a number that leaves all
 abbrev pub refuses : ℕ → Lent → Called
 refuses n l = record { outcome = refused n; lent = l }
@@ -109,7 +114,7 @@ answerOf o = record { number = o .number; used = o .used; reply = length (o .rep
 
 -- GROUP. 9, then 8; a call that returns one of them writes no verdict byte.
 abbrev pub judged : Finished → Outcome
-judged g = record { number = 0; used = 0; reply = []; verdicts = map verdictByte (g .verdicts) }
+judged g = outcomeOf 0 0 [] (map verdictByte (g .verdicts))
 
 -- the arguments: members, the table of parts, the data, and the verdict bytes
 unfoldable pub group-call : List Member → List ℕ → Bytes → Bytes → List ℕ → Bytes → StoreCalled
@@ -155,12 +160,74 @@ pub data Call : Type 0 where
   request : ℕ → Bytes → ℕ → ℕ → Call
   grouped : List Member → List ℕ → Bytes → Bytes → Call
 
+-- the session that sends the call; a group has none
+abbrev pub sender : Call → Option ℕ
+sender (request i input places room) = some i
+sender (grouped ms parts d verdicts) = none
+
+-- THE MEANING OF A CALL, on the state. A group: 8, or the verdicts
+unfoldable pub groupOn : List Member → List ℕ → Bytes → Bytes → State → Stepped
+groupOn ms parts d verdicts st = elim (groupFits parts d ms verdicts) [
+  | false ↦ record { outcome = refused 8; state = st }
+  | true ↦
+      let g = group (map (pendingOf parts d) ms) (st .store) in
+      record { outcome = judged g; state = record { store = g .store; sessions = st .sessions } }
+]
+
+-- one call on the state
+unfoldable pub step : Call → State → Stepped
+step (request i input places room) st = requestOn i input places room st
+step (grouped ms parts d verdicts) st = groupOn ms parts d verdicts st
+
+-- what the calls answer
+unfoldable pub outcomesOn : List Call → State → List Outcome
+outcomesOn [] st = []
+outcomesOn (c ∷ cs) st = let d = step c st in d .outcome ∷ outcomesOn cs (d .state)
+
+-- what the last call left
+unfoldable pub finalOn : List Call → State → State
+finalOn [] st = st
+finalOn (c ∷ cs) st = finalOn cs (step c st .state)
+
+-- THE SAME ON LENT MEMORY. The first number that lent memory or the arguments give, or 0
+unfoldable pub firstNumber : Call → Lent → ℕ
+firstNumber (request i input places room) l = cond (ltb i 16) (cond (valid l) 0 9) 1
+firstNumber (grouped ms parts d verdicts) l = cond (validStore (l .words) (l .bytes)) (cond (groupFits parts d ms verdicts) 0 8) 9
+
+-- the sessions from i on, n of them
+unfoldable pub sessionsFrom : ℕ → ℕ → Lent → List Session
+sessionsFrom zero i l = []
+sessionsFrom (suc n) i l = sessionOf i l ∷ sessionsFrom n (suc i) l
+
+-- the state that is lent
+unfoldable pub stateIn : Lent → State
+stateIn l = record { store = storeOf l; sessions = sessionsFrom 16 0 l }
+
+-- what a call writes back: the store or not, and these sessions
+pub record Touched : Type 0 where
+  pub store : Bool
+  pub sessions : List ℕ
+
+-- a number other than 0 leaves all, but 4 marks the session failed
+unfoldable pub touched : Call → ℕ → Touched
+touched (request i input places room) n = record { store = eqb n 0; sessions = cond (eqb n 0 || eqb n 4) (i ∷ []) [] }
+touched (grouped ms parts d verdicts) n = record { store = eqb n 0; sessions = [] }
+
+-- sessions written back
+unfoldable pub leaveSessions : List ℕ → State → Lent → Lent
+leaveSessions [] st l = l
+leaveSessions (i ∷ is) st l = leaveSessions is st (leaveSession i (sessionIn i st) l)
+
+-- the state written back
+unfoldable pub leave : Touched → State → Lent → Lent
+leave t st l = leaveSessions (t .sessions) st (cond (t .store) (leaveStore (st .store) l) l)
+
 -- one call
 unfoldable pub call : Call → Lent → Called
-call (request i input places room) l = request-call i input places room l
-call (grouped ms parts d verdicts) l =
-    let g = group-call ms parts d verdicts (l .words) (l .bytes) in
-    record { outcome = g .outcome; lent = withStore (g .words) (g .bytes) l }
+call c l = elim (eqb (firstNumber c l) 0) [
+  | false ↦ refuses (firstNumber c l) l
+  | true ↦ let d = step c (stateIn l) in record { outcome = d .outcome; lent = leave (touched c (d .outcome .number)) (d .state) l }
+]
 
 -- what the calls answer
 unfoldable pub outcomes : List Call → Lent → List Outcome

@@ -10,18 +10,18 @@ use lib.IntN.{ℤ, pos, _+ℤ_}
 use Rattle.key.specs.Bytes.{Bytes}
 use Rattle.key.specs.Keys.{Key, sameKey}
 use Rattle.number.specs.Decimal.{decimal}
-use Rattle.resp.specs.Request.{readRequest}
 use Rattle.resp.specs.Reply.{Reply, Simple, Error, Integer, BulkString, Nil, NilArray, Array, array, encode}
 use Rattle.memtable.specs.Table.{Value, Table, keysOf, find, writeAll}
 use Rattle.memtable.specs.Versions.{table, moved}
 use Rattle.memtable.specs.Layout.{emptyStore}
+use Rattle.batch.specs.declared.Member.{Member}
 use Rattle.batch.specs.Group.{among}
 use Rattle.server.specs.Names.{Args, Control, MULTI, EXEC, DISCARD, WATCH, UNWATCH, QUIT, other, controlOf, rowOf, nameWord}
 use Rattle.server.specs.Command.{Command, GET, SET, DEL, EXISTS, MGET, MSET, COUNT, FIXED, Executed, runs, lists}
 use Rattle.server.specs.Session.{clear}
 use Rattle.calls.specs.Serve.{Outcome}
-use Rattle.calls.specs.Calls.{Lent, valid, storeOf, sessionOf, Call, request, grouped, call, outcomes, final, request-call}
-use Rattle.calls.specs.Posting.{Asked, nothing, broken, asks, askedBy, isArray, Item, alone, listed, exec, member, Client, closed, enter, history, closedClients, posted, post, postAll, AllHold}
+use Rattle.calls.specs.Calls.{Lent, valid, storeOf, sessionOf, Call, request, grouped, sender, call, outcomes, final, request-call, group-call, groupCalled}
+use Rattle.calls.specs.Posting.{Asked, nothing, broken, asks, isArray, Event, asked, wrote, told, events, Item, alone, listed, exec, member, Client, closed, enter, enterAll, history, closedClients, posted, post, postAll, AllHold}
 use Rattle.calls.specs.Verdicts.{setKeys, asksExec, staleIn, newTransaction, VerdictsPosted}
 
 -- an empty store just opened, and clear sessions, in valid lent state
@@ -49,8 +49,7 @@ Claim = (cs : List Call) (l : Lent) → Opened l → Demand3 cs l
 -- Posting is fed a call's number, reply and verdicts alone: not the bytes used.
 abbrev pub FedClaim : Type 0
 FedClaim =
-    (c : Call) (o p : Outcome) (ds : List Client) → o .number ≡ p .number → o .reply ≡ p .reply → o .verdicts ≡ p .verdicts →
-    enter c o ds ≡ enter c p ds
+    (c : Call) (o p : Outcome) → o .number ≡ p .number → o .reply ≡ p .reply → o .verdicts ≡ p .verdicts → told c o ≡ told c p
 
 -- THE SUM OF A COUNTER. The increments of a key that got an integer reply; `none` while there is none. (By `replies` above, a
 -- counter command's reply is the one that posting gives.)
@@ -142,44 +141,52 @@ abbrev pub CounterReplies : Type 0
 CounterReplies = (cs : List Call) (l : Lent) → Opened l → (k : Key) → SumOf k (itemsOf cs l) none (sum k (itemsOf cs l) [] none)
 
 -- NO EXEC IS ACCEPTED WITH A KEY MOVED SINCE ITS WATCH. An EXEC of session i that was answered by an array
-abbrev pub Accepts : ℕ → Call → Outcome → Type 0
-Accepts i (request j s places room) o = (j ≡ i) × (o .number ≡ 0) × (asksExec (askedBy s (readRequest places s)) ≡ true) × (isArray (o .reply) ≡ true)
-Accepts i (grouped ms parts d verdicts) o = ⊥
+abbrev pub Accepts : ℕ → Event → Type 0
+Accepts i (asked j x n b) = (j ≡ i) × (n ≡ 0) × (asksExec x ≡ true) × (isArray b ≡ true)
+Accepts i (wrote ws) = ⊥
+
+-- no EXEC of session i is accepted
+abbrev pub NoneAccepted : ℕ → List Event → Type 0
+NoneAccepted i [] = Unit {0}
+NoneAccepted i (e ∷ es) = (Accepts i e → ⊥) × NoneAccepted i es
+
+-- what a call tells on lent memory
+abbrev pub toldBy : Call → Lent → List Event
+toldBy c l = told c (call c l .outcome)
 
 -- k is stale for session i: watched, and with a version that came since. `ds` are the clients before the call
 abbrev pub staleAfter : ℕ → Key → Call → Lent → List Client → Bool → Bool
 staleAfter i k c l ds stale =
-    among (getD (enter c (call c l .outcome) ds .clients) i closed .watched) k
+    among (getD (enterAll (toldBy c l) ds .clients) i closed .watched) k
     && (stale || moved (storeOf l .last) (storeOf (call c l .lent) .versions) k)
 
 -- no EXEC of session i is accepted while k is stale
 abbrev pub NoStaleExec : ℕ → Key → List Call → Lent → List Client → Bool → Type 0
 NoStaleExec i k [] l ds stale = Unit {0}
 NoStaleExec i k (c ∷ cs) l ds stale =
-    (stale ≡ true → Accepts i c (call c l .outcome) → ⊥)
-    × NoStaleExec i k cs (call c l .lent) (enter c (call c l .outcome) ds .clients) (staleAfter i k c l ds stale)
+    (stale ≡ true → NoneAccepted i (toldBy c l))
+    × NoStaleExec i k cs (call c l .lent) (enterAll (toldBy c l) ds .clients) (staleAfter i k c l ds stale)
 
 -- for any list of calls, session and key
 abbrev pub WatchClaim : Type 0
 WatchClaim = (cs : List Call) (l : Lent) → Opened l → (i : ℕ) (k : Key) → NoStaleExec i k cs l closedClients false
 
--- The same by posting alone, without the store: watched, and written by a call since.
+-- The same by posting alone, without the store: watched, and written since.
 -- no EXEC of session i is accepted while k is stale
-abbrev pub NoStalePosted : ℕ → Key → List Call → List Outcome → List Client → Table → Bool → Type 0
-NoStalePosted i k [] os ds t stale = Unit {0}
-NoStalePosted i k (c ∷ cs) [] ds t stale = Unit {0}
-NoStalePosted i k (c ∷ cs) (o ∷ os) ds t stale =
-    (stale ≡ true → Accepts i c o → ⊥)
-    × NoStalePosted i k cs os (enter c o ds .clients) (postAll (enter c o ds .items) t) (staleIn i k (enter c o ds) t stale)
+abbrev pub NoStalePosted : ℕ → Key → List Event → List Client → Table → Bool → Type 0
+NoStalePosted i k [] ds t stale = Unit {0}
+NoStalePosted i k (e ∷ es) ds t stale =
+    (stale ≡ true → Accepts i e → ⊥)
+    × NoStalePosted i k es (enter e ds .clients) (postAll (enter e ds .items) t) (staleIn i k (enter e ds) t stale)
 
 -- for any list of calls, session and key
 abbrev pub PostedWatchClaim : Type 0
-PostedWatchClaim = (cs : List Call) (l : Lent) → Opened l → (i : ℕ) (k : Key) → NoStalePosted i k cs (outcomes cs l) closedClients [] false
+PostedWatchClaim = (cs : List Call) (l : Lent) → Opened l → (i : ℕ) (k : Key) → NoStalePosted i k (events cs (outcomes cs l)) closedClients [] false
 
 -- EACH ANSWER TO EXEC HAS ITS CAUSE: a mark gives EXECABORT, a watched key written since it was first watched `*-1`, and neither meets 6 or 7;
 -- every other EXEC without a number is accepted, and replies as posting does. For any list of calls and session
 abbrev pub VerdictClaim : Type 0
-VerdictClaim = (cs : List Call) (l : Lent) → Opened l → (i : ℕ) → VerdictsPosted i cs (outcomes cs l) closedClients [] newTransaction
+VerdictClaim = (cs : List Call) (l : Lent) → Opened l → (i : ℕ) → VerdictsPosted i (events cs (outcomes cs l)) closedClients [] newTransaction
 
 -- WHAT ONE SESSION HAS QUEUED OR WATCHED ALTERS NO ANSWER TO ANOTHER: an answer, what is left of the store and of the session
 -- depend on the store and that session alone, and a request leaves the other sessions.
@@ -198,12 +205,12 @@ pub record Isolated : Type 0 where
 
 -- what a call posts, by its arguments and its answer
 abbrev pub postedBy : Call → Lent → List Client → List Item
-postedBy c l ds = enter c (call c l .outcome) ds .items
+postedBy c l ds = enterAll (toldBy c l) ds .items
 
 -- posting's queues and watches after a list of calls
 unfoldable pub clientsAfter : List Call → Lent → List Client → List Client
 clientsAfter [] l ds = ds
-clientsAfter (c ∷ cs) l ds = clientsAfter cs (call c l .lent) (enter c (call c l .outcome) ds .clients)
+clientsAfter (c ∷ cs) l ds = clientsAfter cs (call c l .lent) (enterAll (toldBy c l) ds .clients)
 
 -- From an opened store on, a call that posts nothing leaves the store.
 abbrev pub QuietClaim : Type 0
@@ -229,16 +236,20 @@ asksCommand (asks a) = isCommand (controlOf (rowOf (nameWord a) .name))
 
 -- what posts nothing: inside MULTI all but an accepted EXEC, outside it all but a command, and what returns a number
 pub record Quiet : Type 0 where
-  pub inside : (i : ℕ) (s : Bytes) (places room : ℕ) (o : Outcome) (ds : List Client) (q : List Args) → getD ds i closed .queue ≡ some q →
-      (Accepts i (request i s places room) o → ⊥) → enter (request i s places room) o ds .items ≡ []
-  pub outside : (i : ℕ) (s : Bytes) (places room : ℕ) (o : Outcome) (ds : List Client) → getD ds i closed .queue ≡ none →
-      asksCommand (askedBy s (readRequest places s)) ≡ false → enter (request i s places room) o ds .items ≡ []
-  pub numbers : (c : Call) (o : Outcome) (ds : List Client) → (o .number ≡ 0 → ⊥) → enter c o ds .items ≡ []
+  pub inside : (i : ℕ) (x : Asked) (n : ℕ) (b : Bytes) (ds : List Client) (q : List Args) → getD ds i closed .queue ≡ some q →
+      (Accepts i (asked i x n b) → ⊥) → enter (asked i x n b) ds .items ≡ []
+  pub outside : (i : ℕ) (x : Asked) (n : ℕ) (b : Bytes) (ds : List Client) → getD ds i closed .queue ≡ none → asksCommand x ≡ false →
+      enter (asked i x n b) ds .items ≡ []
+  pub numbers : (c : Call) (o : Outcome) (ds : List Client) → (o .number ≡ 0 → ⊥) → enterAll (told c o) ds .items ≡ []
 
--- the call is a request of session i
+-- the session is there, and is session i
+abbrev pub isSession : ℕ → Option ℕ → Bool
+isSession i none = false
+isSession i (some j) = eqb j i
+
+-- the call is one of session i
 abbrev pub isOf : ℕ → Call → Bool
-isOf i (request j s places room) = eqb j i
-isOf i (grouped ms parts d verdicts) = false
+isOf i c = isSession i (sender c)
 
 -- the calls that are none of session i
 unfoldable pub without : ℕ → List Call → List Call
@@ -255,7 +266,7 @@ toOthers i (c ∷ cs) (o ∷ os) = cond (isOf i c) (toOthers i cs os) (o ∷ toO
 abbrev pub PostsNothing : ℕ → List Call → Lent → List Client → Type 0
 PostsNothing i [] l ds = Unit {0}
 PostsNothing i (c ∷ cs) l ds =
-    (isOf i c ≡ true → postedBy c l ds ≡ []) × PostsNothing i cs (call c l .lent) (enter c (call c l .outcome) ds .clients)
+    (isOf i c ≡ true → postedBy c l ds ≡ []) × PostsNothing i cs (call c l .lent) (enterAll (toldBy c l) ds .clients)
 
 -- the same store and the same sessions, but for what session i has queued or watched
 pub record SameBut (i : ℕ) (l m : Lent) : Type 0 where
@@ -288,7 +299,7 @@ unfoldable pub keptCalls : ℕ → List Call → List Outcome → List Client �
 keptCalls i [] os ds = []
 keptCalls i (c ∷ cs) [] ds = []
 keptCalls i (c ∷ cs) (o ∷ os) ds =
-    let e = enter c o ds in
+    let e = enterAll (told c o) ds in
     cond (isKept i c (e .items)) (c ∷ keptCalls i cs os (e .clients)) (keptCalls i cs os (e .clients))
 
 -- the outcomes of those calls
@@ -296,14 +307,8 @@ unfoldable pub keptOutcomes : ℕ → List Call → List Outcome → List Client
 keptOutcomes i [] os ds = []
 keptOutcomes i (c ∷ cs) [] ds = []
 keptOutcomes i (c ∷ cs) (o ∷ os) ds =
-    let e = enter c o ds in
+    let e = enterAll (told c o) ds in
     cond (isKept i c (e .items)) (o ∷ keptOutcomes i cs os (e .clients)) (keptOutcomes i cs os (e .clients))
-
--- no EXEC of session i is accepted
-abbrev pub NoneAccepted : ℕ → List Call → List Outcome → Type 0
-NoneAccepted i [] os = Unit {0}
-NoneAccepted i (c ∷ cs) [] = Unit {0}
-NoneAccepted i (c ∷ cs) (o ∷ os) = (Accepts i c o → ⊥) × NoneAccepted i cs os
 
 -- every call that is kept is answered as without the others
 pub record UnalteredUntilExec (i : ℕ) (cs : List Call) (ds : List Client) (l m : Lent) : Type 0 where
@@ -315,7 +320,7 @@ pub record UnalteredUntilExec (i : ℕ) (cs : List Call) (ds : List Client) (l m
 abbrev pub UntilExecClaim : Type 0
 UntilExecClaim =
     (before cs : List Call) (l m : Lent) (i : ℕ) → Opened l → valid m ≡ true → SameBut i (final before l) m → sessionOf i m .queue ≡ none →
-    NoneAccepted i cs (outcomes cs (final before l)) → UnalteredUntilExec i cs (clientsAfter before l closedClients) (final before l) m
+    NoneAccepted i (events cs (outcomes cs (final before l))) → UnalteredUntilExec i cs (clientsAfter before l closedClients) (final before l) m
 
 -- EVERY CALL LEAVES VALID STATE, so that from an opened store on no call returns 9.
 abbrev pub StaysValid : Type 0
@@ -330,8 +335,14 @@ NoNine (o ∷ os) = (o .number ≡ 9 → ⊥) × NoNine os
 abbrev pub ValidClaim : Type 0
 ValidClaim = (cs : List Call) (l : Lent) → Opened l → (valid (final cs l) ≡ true) × NoNine (outcomes cs l)
 
+-- THE CALLS OF A LIST are those that the contracts of the published functions name.
+pub record CallsClaim : Type 0 where
+  pub requests : (i : ℕ) (s : Bytes) (places room : ℕ) (l : Lent) → call (request i s places room) l ≡ request-call i s places room l
+  pub groups : (ms : List Member) (parts : List ℕ) (d v : Bytes) (l : Lent) → call (grouped ms parts d v) l ≡ groupCalled l (group-call ms parts d v (l .words) (l .bytes))
+
 -- DEMAND 3 WHOLE, with the sentence on other sessions.
 pub record Demand3Holds : Type 0 where
+  pub calls : CallsClaim
   pub claim : Claim
   pub fed : FedClaim
   pub counters : CounterClaim

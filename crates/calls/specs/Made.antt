@@ -1,5 +1,5 @@
 -- Calls made through the published functions, each on the lent memory that the last one left, as the contracts tell it.
-use Prim.Native.Nat.{ℕ, _*_, _≤_}
+use Prim.Native.Nat.{ℕ, _*_, _≤_, _<_}
 use mathlib.Core.Bool.{true, false, cond}
 use mathlib.Core.List.{List, [], _∷_}
 use mathlib.Core.Option.{none}
@@ -11,20 +11,22 @@ use Rattle.key.specs.Keys.{Key}
 use Rattle.memtable.specs.Table.{find}
 use Rattle.memtable.specs.Versions.{table}
 use Rattle.batch.specs.declared.Member.{Member}
+use Rattle.server.specs.Session.{clear}
+use Rattle.server.specs.Sessions.{sessionAt, validSessions}
 use Rattle.server.specs.declared.Answer.{Answer}
-use Rattle.calls.specs.Serve.{Outcome}
+use Rattle.calls.specs.Serve.{Outcome, outcomeOf}
 use Rattle.calls.specs.Calls.{Lent, lentOf, valid, storeOf, sessionOf, withStore, OpenPromise, RequestPromise, GroupPromise, Call, request, grouped}
-use Rattle.calls.specs.Posting.{Item, Client, history, closedClients, postAll, AllHold}
+use Rattle.calls.specs.Posting.{events, Item, Client, history, closedClients, postAll, AllHold}
 use Rattle.calls.specs.Verdicts.{newTransaction, VerdictsPosted}
 use Rattle.calls.specs.Demand3.{Opened, OnlyCounted, textOf, sum, SumOf, NoStaleExec, NoStalePosted, clientsAfter, without, toOthers, PostsNothing, SameBut, keptCalls, keptOutcomes, NoneAccepted, NoNine}
 
 -- WHAT THE CALLER SEES of a request: the reply is in front of the reply buffer
 abbrev pub requestSeen : Answer → Bytes → Outcome
-requestSeen r buffer = record { number = r .number; used = r .used; reply = take (r .reply) buffer; verdicts = [] }
+requestSeen r buffer = outcomeOf (r .number) (r .used) (take (r .reply) buffer) []
 
 -- and of a group: a verdict byte for each member, unless a number is returned
 abbrev pub groupSeen : ℕ → List Member → Bytes → Outcome
-groupSeen n ms v = record { number = n; used = 0; reply = []; verdicts = cond (eqb n 0) (take (length ms) v) [] }
+groupSeen n ms v = outcomeOf n 0 [] (cond (eqb n 0) (take (length ms) v) [])
 
 -- the lent memory before the calls, the calls, what the caller saw of each, and the lent memory after them
 pub data Made : Lent → List Call → List Outcome → Lent → Type 0 where
@@ -46,8 +48,8 @@ pub record Holds (cs : List Call) (os : List Outcome) (l l′ : Lent) : Type 0 w
   pub replies : AllHold (itemsSeen cs os) []
   pub counters : (k : Key) → OnlyCounted k (itemsSeen cs os) → find (table (storeOf l′ .versions)) k ≡ textOf (sum k (itemsSeen cs os) [] none)
   pub sums : (k : Key) → SumOf k (itemsSeen cs os) none (sum k (itemsSeen cs os) [] none)
-  pub watches : (i : ℕ) (k : Key) → NoStalePosted i k cs os closedClients [] false
-  pub verdicts : (i : ℕ) → VerdictsPosted i cs os closedClients [] newTransaction
+  pub watches : (i : ℕ) (k : Key) → NoStalePosted i k (events cs os) closedClients [] false
+  pub verdicts : (i : ℕ) → VerdictsPosted i (events cs os) closedClients [] newTransaction
   pub moved : (i : ℕ) (k : Key) → NoStaleExec i k cs l closedClients false
   pub fit : valid l′ ≡ true
   pub no-nine : NoNine os
@@ -56,11 +58,18 @@ pub record Holds (cs : List Call) (os : List Outcome) (l l′ : Lent) : Type 0 w
 abbrev pub MadeClaim : Type 0
 MadeClaim = (l l′ : Lent) (cs : List Call) (os : List Outcome) → Opened l → Made l cs os l′ → Holds cs os l l′
 
--- a store that the opening call has opened, beside sessions of zeros
+-- a store that the opening call has opened, beside any valid sessions that are clear
 abbrev pub OpensClaim : Type 0
 OpensClaim =
-    (last versions size : ℕ) (w : List ℕ) (b : Bytes) (w′ : List ℕ) (b′ : Bytes) (n m : ℕ) → 16 * 644 ≤ n → 16 * 10240 ≤ m
-    → OpenPromise last versions size w b 0 w′ b′ → Opened (lentOf w′ b′ (replicate n 0) (replicate m 0))
+    (last versions size : ℕ) (w : List ℕ) (b : Bytes) (w′ : List ℕ) (b′ : Bytes) (sw : List ℕ) (sb : Bytes)
+    → validSessions last sw sb ≡ true → ((i : ℕ) → i < 16 → sessionAt i sw sb ≡ clear)
+    → OpenPromise last versions size w b 0 w′ b′ → Opened (lentOf w′ b′ sw sb)
+
+-- zero words are such sessions, beside any bytes
+abbrev pub ZeroClaim : Type 0
+ZeroClaim =
+    (last n : ℕ) (sb : Bytes) → 16 * 644 ≤ n → 16 * 10240 ≤ length sb
+    → (validSessions last (replicate n 0) sb ≡ true) × ((i : ℕ) → i < 16 → sessionAt i (replicate n 0) sb ≡ clear)
 
 -- What session i has queued or watched alters no answer to another until its EXEC is accepted: the same calls made without its requests,
 -- on what the first calls left but for session i, are answered alike.
@@ -82,12 +91,13 @@ pub record SeenUntilExec (i : ℕ) (cs : List Call) (ds : List Client) (os os′
 abbrev pub MadeUntilExec : Type 0
 MadeUntilExec =
     (l l₁ l₂ m m₂ : Lent) (before cs : List Call) (os₁ os₂ os′ : List Outcome) (i : ℕ)
-    → Opened l → Made l before os₁ l₁ → Made l₁ cs os₂ l₂ → valid m ≡ true → SameBut i l₁ m → sessionOf i m .queue ≡ none → NoneAccepted i cs os₂
+    → Opened l → Made l before os₁ l₁ → Made l₁ cs os₂ l₂ → valid m ≡ true → SameBut i l₁ m → sessionOf i m .queue ≡ none → NoneAccepted i (events cs os₂)
     → Made m (keptCalls i cs os₂ (clientsAfter before l closedClients)) os′ m₂ → SeenUntilExec i cs (clientsAfter before l closedClients) os₂ os′ l₂ m₂
 
 -- all of it
 pub record MadeHolds : Type 0 where
   pub opens : OpensClaim
+  pub zero : ZeroClaim
   pub claim : MadeClaim
   pub isolation : MadeIsolation
   pub untilExec : MadeUntilExec

@@ -1,6 +1,8 @@
 -- Posting (document 01, demand 3): what the calls' arguments and answers alone say of the table and the replies.
--- First the history: by what was asked and answered, the commands carried out and the accepted members, in order of acceptance.
+-- First the events that each call tells, by its arguments and its answer; only that goes by the kind of call.
+-- Then the history: by the events, the commands carried out and the accepted members, in order of acceptance.
 -- Then the posting of a history: each item on the table that the one before it left.
+use Prim.Native.Nat.{ℕ}
 use mathlib.Core.List.{List, [], _∷_, _++_, map}
 use mathlib.Core.Bool.{Bool, true, false, cond, not, _&&_, _||_}
 use mathlib.Core.Option.{Option, none, some}
@@ -47,6 +49,28 @@ beginsArray (b ∷ s) = eqb b 42
 unfoldable pub isArray : Bytes → Bool
 isArray b = beginsArray b && not (isReply NilArray b)
 
+-- WHAT IS TOLD: a session asked this, and was given this number and reply; or these writes were accepted.
+pub data Event : Type 0 where
+  asked : ℕ → Asked → ℕ → Bytes → Event
+  wrote : List Write → Event
+
+-- the members with verdict 0, in order
+unfoldable pub acceptedIn : List Pending → Bytes → List Event
+acceptedIn [] vs = []
+acceptedIn (m ∷ ms) [] = []
+acceptedIn (m ∷ ms) (v ∷ vs) = cond (eqb v 0) (wrote (m .writes) ∷ acceptedIn ms vs) (acceptedIn ms vs)
+
+-- by a call and its outcome
+unfoldable pub told : Call → Outcome → List Event
+told (request i s places room) o = asked i (askedBy s (readRequest places s)) (o .number) (o .reply) ∷ []
+told (grouped ms parts d verdicts) o = cond (eqb (o .number) 0) (acceptedIn (map (pendingOf parts d) ms) (o .verdicts)) []
+
+-- by a list of calls with their outcomes
+unfoldable pub events : List Call → List Outcome → List Event
+events [] os = []
+events (c ∷ cs) [] = []
+events (c ∷ cs) (o ∷ os) = told c o ++ events cs os
+
 -- THE HISTORY. A command alone with its reply; a listing; an EXEC's commands and reply; an accepted member's writes.
 pub data Item : Type 0 where
   alone : Command → Bytes → Item
@@ -63,7 +87,7 @@ pub record Client : Type 0 where
 abbrev pub closed : Client
 closed = record { queue = none; watched = [] }
 
--- the client after a call, and what it adds to the history
+-- the client after a request, and what it adds to the history
 pub record Turn : Type 0 where
   pub client : Client
   pub items : List Item
@@ -105,35 +129,30 @@ turnAsked nothing b d = quietly d
 turnAsked broken b d = quietly closed
 turnAsked (asks a) b d = turnBy (controlOf (rowOf (nameWord a) .name)) (d .queue) a b d
 
--- the members with verdict 0, in order
-unfoldable pub acceptedIn : List Pending → Bytes → List Item
-acceptedIn [] vs = []
-acceptedIn (m ∷ ms) [] = []
-acceptedIn (m ∷ ms) (v ∷ vs) = cond (eqb v 0) (member (m .writes) ∷ acceptedIn ms vs) (acceptedIn ms vs)
-
--- the clients after a call, and what it adds to the history
+-- the clients after events, and what they add to the history
 pub record Entered : Type 0 where
   pub clients : List Client
   pub items : List Item
 
--- a call that returned a number changes nothing
-unfoldable pub enter : Call → Outcome → List Client → Entered
-enter (request i s places room) o ds = elim (eqb (o .number) 0) [
+-- a request that returned a number changes nothing; accepted writes are an item
+unfoldable pub enter : Event → List Client → Entered
+enter (asked i x n b) ds = elim (eqb n 0) [
   | false ↦ record { clients = ds; items = [] }
-  | true ↦
-      let t = turnAsked (askedBy s (readRequest places s)) (o .reply) (getD ds i closed) in
-      record { clients = set ds i (t .client); items = t .items }
+  | true ↦ let t = turnAsked x b (getD ds i closed) in record { clients = set ds i (t .client); items = t .items }
 ]
-enter (grouped ms parts d verdicts) o ds = elim (eqb (o .number) 0) [
-  | false ↦ record { clients = ds; items = [] }
-  | true ↦ record { clients = ds; items = acceptedIn (map (pendingOf parts d) ms) (o .verdicts) }
-]
+enter (wrote ws) ds = record { clients = ds; items = member ws ∷ [] }
+
+-- one event after another
+unfoldable pub enterAll : List Event → List Client → Entered
+enterAll [] ds = record { clients = ds; items = [] }
+enterAll (e ∷ es) ds =
+    let x = enter e ds in
+    let y = enterAll es (x .clients) in
+    record { clients = y .clients; items = x .items ++ y .items }
 
 -- the items of a list of calls with their outcomes
-unfoldable pub history : List Call → List Outcome → List Client → List Item
-history [] os ds = []
-history (c ∷ cs) [] ds = []
-history (c ∷ cs) (o ∷ os) ds = let e = enter c o ds in e .items ++ history cs os (e .clients)
+abbrev pub history : List Call → List Outcome → List Client → List Item
+history cs os ds = enterAll (events cs os) ds .items
 
 -- sixteen closed queues
 unfoldable pub closedClients : List Client

@@ -34,6 +34,10 @@ pub record State : Type 0 where
   pub store : Store
   pub sessions : List Session
 
+-- session i of the state
+abbrev pub sessionIn : ℕ → State → Session
+sessionIn i st = getD (st .sessions) i clear
+
 -- an empty store just opened, and sixteen clear sessions
 unfoldable pub openState : ℕ → ℕ → ℕ → State
 openState last versions size = record { store = emptyStore last versions size; sessions = replicate 16 clear }
@@ -45,13 +49,17 @@ pub record Outcome : Type 0 where
   pub reply : Bytes
   pub verdicts : Bytes
 
--- an outcome without reply and verdicts
+-- AN OUTCOME: a number without reply and verdicts
 abbrev pub refused : ℕ → Outcome
 refused n = record { number = n; used = 0; reply = []; verdicts = [] }
 
+-- or an answer
+abbrev pub outcomeOf : ℕ → ℕ → Bytes → Bytes → Outcome
+outcomeOf n used reply verdicts = record { number = n; used = used; reply = reply; verdicts = verdicts }
+
 -- the outcome of a request
 abbrev pub answered : Served → Outcome
-answered d = record { number = d .number; used = d .used; reply = d .reply; verdicts = [] }
+answered d = outcomeOf (d .number) (d .used) (d .reply) []
 
 -- an outcome, and the state after it
 pub record Stepped : Type 0 where
@@ -62,7 +70,7 @@ pub record Stepped : Type 0 where
 unfoldable pub requestOn : ℕ → Bytes → ℕ → ℕ → State → Stepped
 requestOn i input places room st = elim (ltb i 16) [
   | true ↦
-      let d = serve places room input (st .store) (getD (st .sessions) i clear) in
+      let d = serve places room input (st .store) (sessionIn i st) in
       record { outcome = answered d; state = record { store = d .store; sessions = set (st .sessions) i (d .session) } }
   | false ↦ record { outcome = refused 1; state = st }
 ]

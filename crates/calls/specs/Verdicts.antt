@@ -1,4 +1,4 @@
--- What each EXEC is answered, by the calls, their answers and posting's table alone (document 01, demand 3).
+-- What each EXEC is answered, by what the calls tell and posting's table alone (document 01, demand 3).
 -- First which keys are written, then which requests mark a session, then the answer to EXEC.
 use Prim.Native.Nat.{ℕ}
 use mathlib.Core.List.{List, [], _∷_, _++_, map}
@@ -9,16 +9,13 @@ use lib.Dec.{eqb}
 use lib.ListN.{getD}
 use Rattle.key.specs.Bytes.{Bytes}
 use Rattle.key.specs.Keys.{Key}
-use Rattle.resp.specs.Request.{readRequest}
 use Rattle.resp.specs.Reply.{Reply, NilArray, array, encode}
 use Rattle.memtable.specs.Table.{Value, Entry, Table, keysOf, find}
 use Rattle.batch.specs.Group.{anyKey, among}
 use Rattle.server.specs.Names.{Args, Control, MULTI, EXEC, DISCARD, WATCH, UNWATCH, QUIT, other, controlOf, rowOf, nameWord}
 use Rattle.server.specs.Command.{Command, GET, SET, DEL, EXISTS, MGET, MSET, COUNT, FIXED, executedOf, run}
 use Rattle.server.specs.Session.{queuedReply, execAbort}
-use Rattle.calls.specs.Serve.{Outcome}
-use Rattle.calls.specs.Calls.{Call, request, grouped}
-use Rattle.calls.specs.Posting.{Asked, nothing, broken, asks, askedBy, isReply, Item, alone, listed, exec, member, Client, closed, Entered, enter, postQueue, postReplies, post, postAll}
+use Rattle.calls.specs.Posting.{Asked, nothing, broken, asks, Event, asked, wrote, isReply, Item, alone, listed, exec, member, Client, closed, Entered, enter, postQueue, postReplies, post, postAll}
 
 -- THE KEYS WRITTEN. The keys that a command other than a counter writes
 unfoldable pub setKeys : Command → List Key
@@ -65,13 +62,13 @@ isOpen none = false
 isOpen (some q) = true
 
 -- a request inside MULTI marks its session if it returns 4 or is refused
-abbrev pub marksBy : Option (List Args) → Asked → Outcome → Bool
-marksBy q x o = isOpen q && (eqb (o .number) 4 || (eqb (o .number) 0 && refusedQueue x (o .reply)))
+abbrev pub marksBy : Option (List Args) → Asked → ℕ → Bytes → Bool
+marksBy q x n b = isOpen q && (eqb n 4 || (eqb n 0 && refusedQueue x b))
 
--- the call marks session i
-unfoldable pub marks : ℕ → Call → Outcome → List Client → Bool
-marks i (request j s places room) o ds = eqb j i && marksBy (getD ds i closed .queue) (askedBy s (readRequest places s)) o
-marks i (grouped ms parts d verdicts) o ds = false
+-- the event marks session i
+unfoldable pub marks : ℕ → Event → List Client → Bool
+marks i (asked j x n b) ds = eqb j i && marksBy (getD ds i closed .queue) x n b
+marks i (wrote ws) ds = false
 
 -- THE TRANSACTION of a session: the watched keys that were written since they were first watched, and the mark
 pub record Transaction : Type 0 where
@@ -82,7 +79,7 @@ pub record Transaction : Type 0 where
 abbrev pub newTransaction : Transaction
 newTransaction = record { stale = λ k. false; marked = false }
 
--- whether k is watched by session i after a call and was written since it was first watched; `e` is what posting makes of the call
+-- whether k is watched by session i after an event and was written since it was first watched; `e` is what posting makes of the event
 abbrev pub staleIn : ℕ → Key → Entered → Table → Bool → Bool
 staleIn i k e t stale = among (getD (e .clients) i closed .watched) k && (stale || among (writtenIn (e .items) t) k)
 
@@ -91,14 +88,12 @@ unfoldable pub markedAfter : Option (List Args) → Bool → Bool
 markedAfter none marked = false
 markedAfter (some q) marked = marked
 
--- after a call; `t` is posting's table before it
-abbrev pub transactionAfter : ℕ → Call → Outcome → List Client → Table → Transaction → Transaction
-transactionAfter i c o ds t x =
-    let e = enter c o ds in
-    record {
-      stale = λ k. staleIn i k e t (x .stale k);
-      marked = markedAfter (getD (e .clients) i closed .queue) (x .marked || marks i c o ds);
-    }
+-- after an event; `t` is posting's table before it
+abbrev pub transactionAfter : ℕ → Event → List Client → Table → Transaction → Transaction
+transactionAfter i e ds t x = record {
+  stale = λ k. staleIn i k (enter e ds) t (x .stale k);
+  marked = markedAfter (getD (enter e ds .clients) i closed .queue) (x .marked || marks i e ds);
+}
 
 -- THE ANSWER TO EXEC. The request is an EXEC
 abbrev pub isExec : Control → Bool
@@ -116,11 +111,6 @@ asksExec nothing = false
 asksExec broken = false
 asksExec (asks a) = isExec (controlOf (rowOf (nameWord a) .name))
 
--- an EXEC of session i
-abbrev pub Executes : ℕ → Call → Type 0
-Executes i (request j s places room) = (j ≡ i) × (asksExec (askedBy s (readRequest places s)) ≡ true)
-Executes i (grouped ms parts d verdicts) = ⊥
-
 -- a key that the EXEC watches was written since it was first watched
 abbrev pub conflicted : (Key → Bool) → Client → Bool
 conflicted stale d = anyKey stale (d .watched)
@@ -136,11 +126,14 @@ pub record ExecPosted (marked conflict : Bool) (t : Table) (q : List Args) (n : 
   pub replies : n ≡ 0 → b ≡ encode (execReply marked conflict t q)
   pub comes-first : (marked || conflict) ≡ true → (n ≡ 6 → ⊥) × (n ≡ 7 → ⊥)
 
+-- the event, if it is an EXEC of session i, has that number and reply
+abbrev pub ExecAnswered : ℕ → Event → Bool → Bool → Table → List Args → Type 0
+ExecAnswered i (asked j x n b) marked conflict t q = j ≡ i → asksExec x ≡ true → ExecPosted marked conflict t q n b
+ExecAnswered i (wrote ws) marked conflict t q = Unit {0}
+
 -- every EXEC of session i inside MULTI
-abbrev pub VerdictsPosted : ℕ → List Call → List Outcome → List Client → Table → Transaction → Type 0
-VerdictsPosted i [] os ds t x = Unit {0}
-VerdictsPosted i (c ∷ cs) [] ds t x = Unit {0}
-VerdictsPosted i (c ∷ cs) (o ∷ os) ds t x =
-    ((q : List Args) → getD ds i closed .queue ≡ some q → Executes i c →
-    ExecPosted (x .marked) (conflicted (x .stale) (getD ds i closed)) t q (o .number) (o .reply))
-    × VerdictsPosted i cs os (enter c o ds .clients) (postAll (enter c o ds .items) t) (transactionAfter i c o ds t x)
+abbrev pub VerdictsPosted : ℕ → List Event → List Client → Table → Transaction → Type 0
+VerdictsPosted i [] ds t x = Unit {0}
+VerdictsPosted i (e ∷ es) ds t x =
+    ((q : List Args) → getD ds i closed .queue ≡ some q → ExecAnswered i e (x .marked) (conflicted (x .stale) (getD ds i closed)) t q)
+    × VerdictsPosted i es (enter e ds .clients) (postAll (enter e ds .items) t) (transactionAfter i e ds t x)

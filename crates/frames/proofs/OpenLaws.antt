@@ -3,7 +3,7 @@ use Prim.Native.Nat.{ℕ, _*_, _≤_}
 use native.Mathlib.Omega.{arith}
 use mathlib.Core.Path.{_≡_, sym, ap}
 use mathlib.Core.List.{List}
-use lib.ListN.{replicate, length-replicate}
+use lib.ListN.{length, replicate, length-replicate}
 use Rattle.key.specs.Bytes.{Bytes}
 use Rattle.calls.specs.Calls.{lentOf, OpenPromise}
 use Rattle.calls.proofs.MadeLaws.{made}
@@ -12,7 +12,10 @@ use Rattle.console.specs.Steps.{Fit}
 fit-beside : (n m k : ℕ) {last versions size r : ℕ} {w w′ : List ℕ} {b b′ : Bytes} → 16 * 644 ≤ n → 16 * 10240 ≤ m → r ≡ 0 → OpenPromise last versions size w b r w′ b′
     → Fit (lentOf w′ b′ (replicate n 0) (replicate m 0)) (replicate k 0)
 fit-beside n m k {last} {versions} {size} {r} {w} {w′} {b} {b′} words bytes e p = record {
-  fit = made .opens last versions size w b w′ b′ n m words bytes (rw e at p) .fit;
+  fit =
+      let long : length {A = ℕ} (replicate m 0) ≡ m = length-replicate {A = ℕ} m 0 in
+      let z = made .zero last n (replicate m 0) words (omega (arith, bytes, long)) in
+      made .opens last versions size w b w′ b′ (replicate n 0) (replicate m 0) (z .0) (z .1) (rw e at p) .fit;
   cleared = ap (λ (j : ℕ). replicate j 0) (sym (length-replicate k 0));
 }
 

@@ -21,7 +21,8 @@ use Rattle.server.specs.Session.{clear}
 use Rattle.calls.specs.Serve.{State, requestOn}
 use Rattle.calls.specs.Frames.{Frame, stops, requests, held-rest, closes, hexDigit, hex, orDash, shown, Given, answerGiven, frame}
 use Rattle.calls.specs.Captures.{SilentOrReply, noReply, replied, withAnswer}
-use Rattle.calls.proofs.CaptureLaws.{served-answers, some-answer}
+use Rattle.calls.proofs.AnswerLaws.{served-answers}
+use Rattle.calls.proofs.CaptureLaws.{some-answer}
 use Rattle.lines.specs.declared.pieces.Mark.{Mark}
 use Rattle.lines.specs.declared.pieces.Mark.the-variants.{NoMark, Number, Dropped}
 use Rattle.lines.specs.Pieces.{headText, numberText, markText}
