@@ -10,8 +10,8 @@ use Rattle.memtable.specs.Layout.{storeIn, validStore}
 use Rattle.batch.specs.declared.Member.{Member}
 use Rattle.batch.specs.Group.{group}
 use Rattle.batch.specs.Members.{groupFits, pendingOf}
-use Rattle.calls.specs.Serve.{serve, answered}
-use Rattle.calls.specs.Calls.{Lent, Called, valid, storeOf, sessionOf, leaveServed, refuses, refusesStore, givesStore, judged, request-call, group-call}
+use Rattle.calls.specs.Serve.{serve, answered, execPreviewed}
+use Rattle.calls.specs.Calls.{Lent, Called, valid, storeOf, sessionOf, leaveServed, refuses, refusesStore, givesStore, judged, request-call, preview-call, group-call}
 
 pub tested : (b : Bool) → (b ≡ true) ⊎ (b ≡ false)
 tested true = inl refl
@@ -33,6 +33,19 @@ module _ (i : ℕ) (s : Bytes) (places room : ℕ) (l : Lent) where
   pub served : ltb i 16 ≡ true → valid l ≡ true → request-call i s places room l ≡ servedCall
   unfolding request-call
   served e v = rw (e, v, request-call)
+
+module _ (i room : ℕ) (l : Lent) where
+  pub preview-no-session : ltb i 16 ≡ false → preview-call i room l ≡ refuses 1 l
+  unfolding preview-call
+  preview-no-session e = rw (e, preview-call)
+
+  pub preview-not-valid : ltb i 16 ≡ true → valid l ≡ false → preview-call i room l ≡ refuses 9 l
+  unfolding preview-call
+  preview-not-valid e v = rw (e, v, preview-call)
+
+  pub preview-valid : ltb i 16 ≡ true → valid l ≡ true → preview-call i room l ≡ record { outcome = execPreviewed room (storeOf l) (sessionOf i l); lent = l }
+  unfolding preview-call
+  preview-valid e v = rw (e, v, preview-call)
 
 module _ (ms : List Member) (parts : List ℕ) (d v : Bytes) (w : List ℕ) (b : Bytes) where
   pub not-valid-store : validStore w b ≡ false → group-call ms parts d v w b ≡ refusesStore 9 w b

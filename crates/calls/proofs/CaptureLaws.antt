@@ -15,20 +15,32 @@ use Rattle.capture.proofs.ReadBack.{one-split}
 use Rattle.capture.proofs.Splits.{three-bytes, all-bytes, same-front, same-pieces, all-lines, any-bytes}
 use Rattle.server.specs.Command.{Command, GET, SET, DEL, EXISTS, MGET, MSET, COUNT, FIXED, Executed, runs, lists}
 use Rattle.calls.specs.Calls.{Lent, Call, firstNumber, stateIn, call, outcomes}
-use Rattle.calls.specs.Posting.{alone, listed, exec, member}
-use Rattle.calls.specs.Demand3.{itemsOf, isOf, isInteger, orZero, increment, incrementBy, increments, sum, textOf}
-use Rattle.calls.specs.Captures.{SilentOrReply, noReply, replied, withAnswer, answersTo, CaptureClaim, OneSum, CounterByReplies}
+use Rattle.calls.specs.Posting.{Event, asked, wrote, told, events, alone, listed, exec, member}
+use Rattle.calls.specs.Demand3.{itemsOf, isInteger, orZero, increment, incrementBy, increments, sum, textOf}
+use Rattle.calls.specs.Captures.{SilentOrReply, noReply, replied, withAnswer, answersTo, repliesTo, CaptureClaim, OneSum, CounterByReplies}
+use Rattle.calls.proofs.KindLaws.{EachAnswered}
 use Rattle.calls.proofs.EveryKind.{kind}
 use Rattle.calls.proofs.CounterLaws.{counters, counter-replies}
 
--- A CALL of a session answers so, on any lent memory
-call-answers : (i : ℕ) (c : Call) (l : Lent) → isOf i c ≡ true → SilentOrReply (call c l .outcome .reply)
+-- A CALL answers so, on any lent memory
+call-answers : (c : Call) (l : Lent) → EachAnswered (told c (call c l .outcome))
 unfolding call
-call-answers i c l own = go (eqb (firstNumber c l) 0) refl
+call-answers c l = go (eqb (firstNumber c l) 0) refl
   where
-    go : (b : Bool) → eqb (firstNumber c l) 0 ≡ b → SilentOrReply (call c l .outcome .reply)
-    go false e = rw (e, call) noReply
-    go true e = rw (e, call) (kind c .answers i (stateIn l) own)
+    go : (b : Bool) → eqb (firstNumber c l) 0 ≡ b → EachAnswered (told c (call c l .outcome))
+    go false e = rw (e, call) (kind c .refusals (firstNumber c l))
+    go true e = rw (e, call) (kind c .answers (stateIn l))
+
+-- and so do the calls of a list
+both-answered : (es fs : List Event) → EachAnswered es → EachAnswered fs → EachAnswered (es ++ fs)
+both-answered [] fs a b = b
+both-answered (asked i x n t ∷ es) fs a b = (a .0, both-answered es fs (a .1) b)
+both-answered (wrote ws ∷ es) fs a b = both-answered es fs a b
+
+each-answered : (cs : List Call) (l : Lent) → EachAnswered (events cs (outcomes cs l))
+unfolding events outcomes
+each-answered [] l = tt
+each-answered (c ∷ cs) l = both-answered (told c (call c l .outcome)) _ (call-answers c l) (each-answered cs (call c l .lent))
 
 -- THE ANSWERS TO A SESSION are replies
 pub some-answer : (s : Bytes) (bs : List Bytes) → 3 ≤ length s → withAnswer s bs ≡ s ∷ bs
@@ -43,27 +55,22 @@ one-more : (s : Bytes) (bs : List Bytes) → SilentOrReply s → AreReplies bs �
 one-more s bs noReply h = h
 one-more s bs (replied r) h = (r ∷ h .0, some-answer (encode r) bs (three-bytes r) ∙ ap (λ (l : List Bytes). encode r ∷ l) (h .1))
 
-answers-are : (i : ℕ) (cs : List Call) (l : Lent) → AreReplies (answersTo i cs (outcomes cs l))
-unfolding answersTo outcomes
-answers-are i [] l = ([], refl)
-answers-are i (c ∷ cs) l = go (isOf i c) refl (answers-are i cs (call c l .lent))
+answers-are : (i : ℕ) (es : List Event) → EachAnswered es → AreReplies (answersTo i es)
+unfolding answersTo
+answers-are i [] a = ([], refl)
+answers-are i (asked j x n b ∷ es) a = go (eqb j i) (answers-are i es (a .1))
   where
-    reply : Bytes
-    reply = call c l .outcome .reply
-
-    more : List Bytes
-    more = answersTo i cs (outcomes cs (call c l .lent))
-
-    go : (own : Bool) → isOf i c ≡ own → AreReplies more → AreReplies (cond own (withAnswer reply more) more)
-    go true e h = one-more reply more (call-answers i c l e) h
-    go false e h = h
+    go : (own : Bool) → AreReplies (answersTo i es) → AreReplies (cond own (withAnswer b (answersTo i es)) (answersTo i es))
+    go true h = one-more b (answersTo i es) (a .0) h
+    go false h = h
+answers-are i (wrote ws ∷ es) a = answers-are i es a
 
 -- so the bytes received tell them: as they are written, one list of replies
 pub capture-tells : CaptureClaim
 capture-tells i cs l =
-    let h = answers-are i cs l in
+    let h = answers-are i (events cs (outcomes cs l)) (each-answered cs l) in
     let rs = map written (h .0) in
-    let each : answersTo i cs (outcomes cs l) ≡ map encode rs = h .1 ∙ sym (all-bytes (h .0)) in
+    let each : repliesTo i cs l ≡ map encode rs = h .1 ∙ sym (all-bytes (h .0)) in
     record {
       replies = rs;
       lines = all-lines (h .0);

@@ -5,11 +5,11 @@ use Rattle.calls.proofs.IsolationClaim.{quiet-leaves, isolation, isolat
 use Rattle.calls.proofs.IsolationLaws.{isolated}
 use Rattle.calls.proofs.Posting.{claim, stays-valid, no-exec-after-move, no-exec-after-write, verdicts-caused}
 use Rattle.calls.proofs.EveryKind.{fed, quiet}
-use Rattle.calls.proofs.StateLaws.{request-is, group-is}
+use Rattle.calls.proofs.StateLaws.{request-is, group-is, preview-is}
 
 pub demand-3 : Demand3Holds
 demand-3 = record {
-  calls = record { requests = request-is; groups = group-is };
+  calls = record { requests = request-is; groups = group-is; previews = preview-is };
   claim = claim;
   fed = fed;
   counters = counters;

@@ -19,18 +19,14 @@ use Rattle.batch.specs.Group.{Pending, verdictByte, judge, writtenAfter, storeA
 use Rattle.batch.specs.Members.{groupFits, pendingOf}
 use Rattle.batch.proofs.GroupLaws.{After, after-member, after-group, verdicts-long}
 use Rattle.server.proofs.SessionLaws.{session-later}
-use Rattle.calls.specs.Serve.{State, sessionIn, Outcome, refused, outcomeOf, Stepped}
+use Rattle.calls.specs.Serve.{State, sessionIn, withStoreOf, Outcome, refused, outcomeOf, Stepped}
 use Rattle.calls.specs.Calls.{Lent, valid, judged, grouped, groupOn, step, firstNumber, touched}
 use Rattle.calls.specs.Posting.{Event, wrote, acceptedIn, told, Client, enterAll}
 use Rattle.calls.specs.Demand3.{NoneAccepted}
 use Rattle.calls.proofs.MovedLaws.{later-from}
 use Rattle.calls.proofs.EventLaws.{bound, Fit, Chain, ended, after}
 use Rattle.calls.proofs.WatchLaws.{same-keeps-watch}
-use Rattle.calls.proofs.KindLaws.{Law, unmoved, SameOn, SameOnBoth, Kind}
-
--- the state with another store, and with the store as it is
-abbrev pub withStoreOf : Store → State → State
-withStoreOf st p = record { store = st; sessions = p .sessions }
+use Rattle.calls.proofs.KindLaws.{Law, unmoved, SameOn, SameOnBoth, EachAnswered, Kind}
 
 pub store-fit : (p : State) (st : Store) → Fit p → After (p .store) st → Fit (withStoreOf st p)
 store-fit p st fit a = record { sound = a .sound; sixteen = fit .sixteen; each = λ i h. session-later _ _ (sessionIn i p) (a .later .lasts) (fit .each i h) }
@@ -92,6 +88,25 @@ none-accepts i (m ∷ ms) (v ∷ vs) = go (eqb v 0) (none-accepts i ms vs)
     go true h = (λ x. x, h)
     go false h = h
 
+-- and no member is answered
+none-answered : (ms : List Pending) (vs : Bytes) → EachAnswered (acceptedIn ms vs)
+unfolding acceptedIn
+none-answered [] vs = tt
+none-answered (m ∷ ms) [] = tt
+none-answered (m ∷ ms) (v ∷ vs) = go (eqb v 0) (none-answered ms vs)
+  where
+    go : (b : Bool) → EachAnswered (acceptedIn ms vs) → EachAnswered (cond b (wrote (m .writes) ∷ acceptedIn ms vs) (acceptedIn ms vs))
+    go true h = h
+    go false h = h
+
+group-answers : (ms : List Member) (parts : List ℕ) (d v : Bytes) (o : Outcome) → EachAnswered (told (grouped ms parts d v) o)
+unfolding told
+group-answers ms parts d v o = go (eqb (o .number) 0)
+  where
+    go : (b : Bool) → EachAnswered (cond b (acceptedIn (map (pendingOf parts d) ms) (o .verdicts)) [])
+    go true = none-answered (map (pendingOf parts d) ms) (o .verdicts)
+    go false = tt
+
 -- ALL OF IT
 module _ (ms : List Member) (parts : List ℕ) (text verdicts : Bytes) (p : State) (fit : Fit p) where
   group-law : Law (grouped ms parts text verdicts) p (groupOn ms parts text verdicts p)
@@ -105,7 +120,7 @@ module _ (ms : List Member) (parts : List ℕ) (text verdicts : Bytes) (p : Stat
       g = group (map (pendingOf parts text) ms) (p .store)
 
       go : (b : Bool) → groupFits parts text ms verdicts ≡ b → Law (grouped ms parts text verdicts) p (groupOn ms parts text verdicts p)
-      go false e = rw (e, groupOn) (unmoved (grouped ms parts text verdicts) p 8 fit ended tt (λ z. omega arith) (λ i h e. tt))
+      go false e = rw (e, groupOn) (unmoved (grouped ms parts text verdicts) p (refused 8) fit ended tt (λ z. omega arith) (λ i h e. tt))
       go true e =
           let a = after-group ps (p .store) (fit .sound) in
           rw (e, groupOn) (record {
@@ -131,7 +146,7 @@ module _ (i : ℕ) (p q : State) (same : SameOn i p q) where
       by : Bool → State → Stepped
       by b r = elim b [
         | false ↦ record { outcome = refused 8; state = r }
-        | true ↦ let g = group (map (pendingOf parts d) ms) (r .store) in record { outcome = judged g; state = record { store = g .store; sessions = r .sessions } }
+        | true ↦ let g = group (map (pendingOf parts d) ms) (r .store) in record { outcome = judged g; state = withStoreOf (g .store) r }
       ]
 
       go : (b : Bool) → SameOnBoth i (by b p) (by b q)
@@ -155,7 +170,7 @@ group-first ms parts d v l p ok n = rw fits (go (groupFits parts d ms v) refl (r
 
 group-fed : (ms : List Member) (parts : List ℕ) (d v : Bytes) (o p : Outcome) → o .number ≡ p .number → o .verdicts ≡ p .verdicts → told (grouped ms parts d v) o ≡ told (grouped ms parts d v) p
 unfolding told
-group-fed ms parts d v o p n w = λ z. told (grouped ms parts d v) (outcomeOf (n z) 0 [] (w z))
+group-fed ms parts d v o p n w = λ z. told (grouped ms parts d v) (outcomeOf (n z) 0 [] (w z) 0)
 
 group-numbers : (ms : List Member) (parts : List ℕ) (d v : Bytes) (o : Outcome) (ds : List Client) → (o .number ≡ 0 → ⊥) → enterAll (told (grouped ms parts d v) o) ds .items ≡ []
 unfolding enterAll told
@@ -168,7 +183,8 @@ group-kind ms parts d v = record {
   first = group-first ms parts d v;
   fed = λ o p n r w. group-fed ms parts d v o p n w;
   numbers = group-numbers ms parts d v;
-  answers = λ i p e. absurd (false≢true e);
+  answers = λ p. group-answers ms parts d v (groupOn ms parts d v p .outcome);
+  refusals = λ n. group-answers ms parts d v (refused n);
   other = λ i p q f g same e. group-same i p q same ms parts d v;
   own = λ i p q ds f g c same free e. absurd (false≢true e);
 }

@@ -18,10 +18,11 @@ use Rattle.server.specs.Names.{Args, rowOf, nameWord, Control, MULTI, EXEC, DIS
 use Rattle.server.specs.Command.{Executed, runs, lists, Effect, executedOf, run}
 use Rattle.server.specs.Session.{Session, Result, number, reply, Done, committed, direct, outsideMulti, respondBy, respond}
 use Rattle.server.specs.Finish.{Served, silent, fitted, finishBy, finish}
-use Rattle.calls.specs.Serve.{serveReading, serve, answered}
-use Rattle.calls.specs.Calls.{Lent, valid, sessionOf, Called, leaveServed, request-call}
+use Rattle.calls.specs.Serve.{serveReading, serve, answered, execPreviewed}
+use Rattle.calls.specs.Calls.{Lent, valid, sessionOf, Called, leaveServed, request-call, preview-call}
 use Rattle.calls.specs.Posting.{askedBy}
 use Rattle.calls.specs.Demand3.{SameFor, Isolated, isCommand, asksCommand}
+use Rattle.calls.proofs.CallLaws.{preview-no-session, preview-valid}
 use Rattle.calls.proofs.LentLaws.{servedBy, request-served, request-refused, request-leaves}
 
 module _ (i : ℕ) (s : Bytes) (places room : ℕ) where
@@ -68,11 +69,21 @@ module _ (i : ℕ) (s : Bytes) (places room : ℕ) where
       go true e = ap (sessionOf j) (left l (ltb-true i 16 e) p) ∙ request-leaves i s places room l (ltb-true i 16 e) p .others j k n
       go false e = ap (sessionOf j) (unserved l e)
 
+-- a preview on two such states
+module _ (i room : ℕ) (l m : Lent) (p : valid l ≡ true) (q : valid m ≡ true) (h : SameFor i l m) where
+  same-preview : preview-call i room l .outcome ≡ preview-call i room m .outcome
+  same-preview = go (ltb i 16) refl
+    where
+      go : (b : Bool) → ltb i 16 ≡ b → preview-call i room l .outcome ≡ preview-call i room m .outcome
+      go false e = rw (preview-no-session i room l e, preview-no-session i room m e)
+      go true e = rw (preview-valid i room l e p, preview-valid i room m e q) (λ z. execPreviewed room (h .store z) (h .session z))
+
 pub isolated : Isolated
 isolated = record {
   answers = λ i s places room l m p q h. same-answer i s places room l m p q h;
   leaves = λ i s places room l m p q h. same-left i s places room l m p q h;
   others = λ i j s places room l p k n. others-left i s places room j l p k n;
+  previews = same-preview;
 }
 
 -- A COMMAND OUTSIDE MULTI is served by the store alone, and leaves its session.

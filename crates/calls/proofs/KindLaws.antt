@@ -10,7 +10,7 @@ use Rattle.server.specs.Session.{anyMoved}
 use Rattle.server.proofs.SessionLaws.{WatchKept}
 use Rattle.calls.specs.Serve.{State, sessionIn, Outcome, refused, Stepped}
 use Rattle.calls.specs.Calls.{Lent, valid, Call, step, firstNumber, Touched, touched}
-use Rattle.calls.specs.Posting.{told, Client, enterAll}
+use Rattle.calls.specs.Posting.{Event, asked, wrote, told, Client, enterAll}
 use Rattle.calls.specs.Demand3.{NoneAccepted, isOf, anyItem}
 use Rattle.calls.specs.Captures.{SilentOrReply}
 use Rattle.calls.proofs.MovedLaws.{LaterFrom, later-from}
@@ -46,9 +46,9 @@ pub record Law (c : Call) (p : State) (d : Stepped) : Type 0 where
   pub outside : (i : ℕ) → i < 16 → isOf i c ≡ false → sessionIn i p .queue ≡ none → sessionIn i (d .state) .queue ≡ none
 
 -- a call that leaves the state, by what it tells
-module _ (c : Call) (p : State) (n : ℕ) (fit : Fit p) where
-  pub unmoved : Chain (told c (refused n)) p p → Small (touched c n .sessions) → (n ≡ 9 → ⊥)
-      → ((i : ℕ) → i < 16 → anyMoved (p .store .versions) (watchIn i p) ≡ true → NoneAccepted i (told c (refused n))) → Law c p (record { outcome = refused n; state = p })
+module _ (c : Call) (p : State) (o : Outcome) (fit : Fit p) where
+  pub unmoved : Chain (told c o) p p → Small (touched c (o .number) .sessions) → (o .number ≡ 9 → ⊥)
+      → ((i : ℕ) → i < 16 → anyMoved (p .store .versions) (watchIn i p) ≡ true → NoneAccepted i (told c o)) → Law c p (record { outcome = o; state = p })
   unmoved ch small nine stale = record {
     fit = fit;
     later = later-from (bound p) (later-refl (p .store));
@@ -76,6 +76,12 @@ pub record KeptStep (i : ℕ) (d e : Stepped) : Type 0 where
   pub same : SameOnBoth i d e
   pub outside : i < 16 → sessionIn i (e .state) .queue ≡ none
 
+-- EACH ANSWER that is told has no bytes, or those of one reply
+abbrev pub EachAnswered : List Event → Type 0
+EachAnswered [] = Unit {0}
+EachAnswered (asked i x n b ∷ es) = SilentOrReply b × EachAnswered es
+EachAnswered (wrote ws ∷ es) = EachAnswered es
+
 -- ALL THAT A KIND OF CALL OWES
 pub record Kind (c : Call) : Type 0 where
   pub law : (p : State) → Fit p → Law c p (step c p)
@@ -84,8 +90,9 @@ pub record Kind (c : Call) : Type 0 where
   -- what is told depends on number, reply and verdicts alone, and with a number nothing is posted
   pub fed : (o p : Outcome) → o .number ≡ p .number → o .reply ≡ p .reply → o .verdicts ≡ p .verdicts → told c o ≡ told c p
   pub numbers : (o : Outcome) (ds : List Client) → (o .number ≡ 0 → ⊥) → enterAll (told c o) ds .items ≡ []
-  -- a session's own call is answered by one reply, or by none
-  pub answers : (i : ℕ) (p : State) → isOf i c ≡ true → SilentOrReply (step c p .outcome .reply)
+  -- a session is answered by one reply, or by none
+  pub answers : (p : State) → EachAnswered (told c (step c p .outcome))
+  pub refusals : (n : ℕ) → EachAnswered (told c (refused n))
   -- a call that is not session i's, and one of its own that posts and is no accepted EXEC
   pub other : (i : ℕ) (p q : State) → Fit p → Fit q → SameOn i p q → isOf i c ≡ false → SameOnBoth i (step c p) (step c q)
   pub own : (i : ℕ) (p q : State) (ds : List Client) → Fit p → Fit q → Clients p ds → SameOn i p q → (i < 16 → sessionIn i q .queue ≡ none) → isOf i c ≡ true

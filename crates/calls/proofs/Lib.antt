@@ -18,6 +18,8 @@ pub mod MarkLaws
 pub mod MovedLaws
 pub mod OpenLaws
 pub mod Posting
+pub mod PreviewLaws
+pub mod PreviewsProved
 pub mod QuietLaws
 pub mod Refusals
 pub mod ReplyLaws

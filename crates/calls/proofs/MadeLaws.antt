@@ -1,10 +1,10 @@
 -- Demand 3 is proved of the calls made through the published functions: what their contracts tell is what the definitions give. Assumes nothing.
-use Prim.Native.Nat.{ℕ, _-_, min}
+use Prim.Native.Nat.{ℕ, _+_, _-_, min}
 use native.Mathlib.Omega.{arith}
 use mathlib.Core.Path.{_≡_, refl, sym, ap, _∙_}
 use mathlib.Core.Bool.{Bool, true, false, cond}
 use mathlib.Core.List.{List, [], _∷_, map}
-use lib.Dec.{ltb}
+use lib.Dec.{ltb, eqb}
 use lib.ListN.{length, take, drop, replicate, length-append, length-map, length-take, length-replicate}
 use lib.Seq.{take-at}
 use Rattle.key.specs.Bytes.{Bytes, over-front}
@@ -17,22 +17,24 @@ use Rattle.batch.specs.Members.{groupFits, pendingOf}
 use Rattle.batch.proofs.GroupLaws.{verdicts-long}
 use Rattle.server.specs.declared.Answer.{Answer}
 use Rattle.server.specs.Finish.{Served, replyBuffer}
-use Rattle.calls.specs.Serve.{Outcome, refused, outcomeOf, answered, serve}
-use Rattle.calls.specs.Calls.{Lent, lentOf, valid, storeOf, sessionOf, leaveServed, refuses, Called, StoreCalled, withStore, refusesStore, givesStore, judged, open-call, request-call, group-call, verdictBuffer, RequestPromise, GroupPromise, Call, outcomes, final}
+use Rattle.decision.specs.declared.Preview.{Preview}
+use Rattle.decision.specs.Decided.{Decided, decideExec}
+use Rattle.calls.specs.Serve.{Outcome, refused, outcomeOf, answered, previewed, serve}
+use Rattle.calls.specs.Calls.{Lent, lentOf, valid, storeOf, sessionOf, leaveServed, refuses, Called, StoreCalled, withStore, refusesStore, givesStore, judged, open-call, request-call, preview-call, verdictIn, group-call, verdictBuffer, RequestPromise, PreviewPromise, GroupPromise, Call, outcomes, final}
 use Rattle.calls.specs.Demand3.{Opened, without, toOthers, SameBut, Unaltered, PostsNothing, keptCalls, keptOutcomes, NoneAccepted, UnalteredUntilExec, clientsAfter}
 use Rattle.calls.specs.Posting.{events, closedClients}
-use Rattle.calls.specs.Made.{requestSeen, groupSeen, Made, unmade, byRequest, byGroup, Holds, MadeClaim, OpensClaim, MadeIsolation, MadeUntilExec, MadeHolds}
+use Rattle.calls.specs.Made.{requestSeen, groupSeen, previewSeen, Made, unmade, byRequest, byGroup, byPreview, Holds, MadeClaim, OpensClaim, MadeIsolation, MadeUntilExec, MadeHolds}
 use Rattle.calls.proofs.Demand3Proved.{demand-3}
 use Rattle.calls.proofs.OpenLaws.{zeros-are-clear, opens}
-use Rattle.calls.proofs.StateLaws.{request-is, group-is}
+use Rattle.calls.proofs.StateLaws.{request-is, group-is, preview-is}
 
 -- THE OUTCOME THAT THE CALLER SEES is the definition's. A reply in front of its buffer
 front : (room : ℕ) (s : Bytes) → take (length s) (replyBuffer room s) ≡ s
 unfolding replyBuffer
 front room s = take-at s (replicate (room - length s) 0) (length s) refl
 
--- a request writes no verdict
-no-verdicts : (i : ℕ) (input : Bytes) (places room : ℕ) (l : Lent) → request-call i input places room l .outcome .verdicts ≡ []
+-- a request writes no verdict and tells no last sequence
+no-verdicts : (i : ℕ) (input : Bytes) (places room : ℕ) (l : Lent) → (request-call i input places room l .outcome .verdicts ≡ []) × (request-call i input places room l .outcome .last ≡ 0)
 unfolding request-call
 no-verdicts i input places room l = go (ltb i 16) (valid l)
   where
@@ -42,17 +44,17 @@ no-verdicts i input places room l = go (ltb i 16) (valid l)
     by : Bool → Bool → Called
     by a b = elim a [ false ↦ refuses 1 l | true ↦ elim b [ false ↦ refuses 9 l | true ↦ record { outcome = answered d; lent = leaveServed i d l } ] ]
 
-    go : (a b : Bool) → by a b .outcome .verdicts ≡ []
-    go false b = refl
-    go true false = refl
-    go true true = refl
+    go : (a b : Bool) → (by a b .outcome .verdicts ≡ []) × (by a b .outcome .last ≡ 0)
+    go false b = (refl, refl)
+    go true false = (refl, refl)
+    go true true = (refl, refl)
 
 request-seen : {i : ℕ} {input : Bytes} {places : ℕ} {buffer : Bytes} {l : Lent} {r : Answer} {buffer′ : Bytes} {l₁ : Lent}
     → RequestPromise i input places buffer l r buffer′ l₁ → requestSeen r buffer′ ≡ request-call i input places (length buffer) l .outcome
 request-seen {i} {input} {places} {buffer} {l} {r} {buffer′} p =
     let o : Outcome = request-call i input places (length buffer) l .outcome in
     let e : take (r .reply) buffer′ ≡ o .reply = (λ z. take (p .answer z .reply) (p .reply z)) ∙ front (length buffer) (o .reply) in
-    λ z. outcomeOf (p .answer z .number) (p .answer z .used) (e z) (sym (no-verdicts i input places (length buffer) l) z)
+    λ z. outcomeOf (p .answer z .number) (p .answer z .used) (e z) (sym (no-verdicts i input places (length buffer) l .0) z) (sym (no-verdicts i input places (length buffer) l .1) z)
 
 -- a verdict for each member
 all-verdicts : (ms : List Pending) (st : Store) → length (group ms st .verdicts) ≡ length ms
@@ -85,11 +87,42 @@ group-outcome ms parts d v w b = go (validStore w b) (groupFits parts d ms v)
     go : (x y : Bool) → groupSeen (by x y .outcome .number) ms (over-front (by x y .outcome .verdicts) v) ≡ by x y .outcome
     go false y = refl
     go true false = refl
-    go true true = ap (outcomeOf 0 0 []) (over-seen (map verdictByte (g .verdicts)) v (length ms) long)
+    go true true = ap (λ (x : Bytes). outcomeOf 0 0 [] x 0) (over-seen (map verdictByte (g .verdicts)) v (length ms) long)
 
 group-seen : {ms : List Member} {parts : List ℕ} {d v : Bytes} {w : List ℕ} {b : Bytes} {n : ℕ} {v′ : Bytes} {w′ : List ℕ} {b′ : Bytes}
     → GroupPromise ms parts d v w b n v′ w′ b′ → groupSeen n ms v′ ≡ group-call ms parts d v w b .outcome
 group-seen {ms} {parts} {d} {v} {w} {b} p = (λ z. groupSeen (p .number z) ms (p .verdicts z)) ∙ group-outcome ms parts d v w b
+
+-- a preview's verdict is the only one, where there is no number
+preview-whole : (i room : ℕ) (l : Lent) → (let o = preview-call i room l .outcome in outcomeOf (o .number) 0 (o .reply) (cond (eqb (o .number) 0) (verdictIn o ∷ []) []) (o .last) ≡ o)
+unfolding preview-call previewed
+preview-whole i room l = go (ltb i 16) (valid l)
+  where
+    d : Decided
+    d = decideExec room (storeOf l) (sessionOf i l)
+
+    seen : Outcome → Outcome
+    seen o = outcomeOf (o .number) 0 (o .reply) (cond (eqb (o .number) 0) (verdictIn o ∷ []) []) (o .last)
+
+    by : Bool → Bool → Called
+    by a b = elim a [ false ↦ refuses 1 l | true ↦ elim b [ false ↦ refuses 9 l | true ↦ record { outcome = previewed (storeOf l .last) d; lent = l } ] ]
+
+    told : (t : Bool) → eqb (d .number) 0 ≡ t → seen (cond t (outcomeOf 0 0 (d .reply) (d .verdict ∷ []) (storeOf l .last + length (d .writes))) (refused (d .number)))
+        ≡ cond t (outcomeOf 0 0 (d .reply) (d .verdict ∷ []) (storeOf l .last + length (d .writes))) (refused (d .number))
+    told true e = refl
+    told false e = ap (λ (t : Bool). outcomeOf (d .number) 0 [] (cond t (255 ∷ []) []) 0) e
+
+    go : (a b : Bool) → seen (by a b .outcome) ≡ by a b .outcome
+    go false b = refl
+    go true false = refl
+    go true true = told (eqb (d .number) 0) refl
+
+preview-seen : {i : ℕ} {buffer : Bytes} {l : Lent} {r : Preview} {buffer′ : Bytes} {l₁ : Lent}
+    → PreviewPromise i buffer l r buffer′ l₁ → previewSeen r buffer′ ≡ preview-call i (length buffer) l .outcome
+preview-seen {i} {buffer} {l} {r} {buffer′} p =
+    let o : Outcome = preview-call i (length buffer) l .outcome in
+    let e : take (r .reply) buffer′ ≡ o .reply = (λ z. take (p .preview z .reply) (p .reply z)) ∙ front (length buffer) (o .reply) in
+    (λ z. outcomeOf (p .preview z .number) 0 (e z) (cond (eqb (p .preview z .number) 0) (p .preview z .verdict ∷ []) []) (p .preview z .last)) ∙ preview-whole i (length buffer) l
 
 -- THE CALLS MADE are the definition's list of calls
 record AsDefined (l : Lent) (cs : List Call) (os : List Outcome) (l′ : Lent) : Type 0 where
@@ -112,6 +145,12 @@ as-defined {l} {l′} (c ∷ cs) os (byGroup {ms = ms} {parts = parts} {d = d} {
     let same : withStore w′ b′ l ≡ withStore (g .words) (g .bytes) l = λ z. withStore (p .words z) (p .bytes z) l in
     let seen = group-seen p ∙ ap (λ (x : Called). x .outcome) e in
     let left = same ∙ ap (λ (x : Called). x .lent) e in
+    record { seen = λ z. seen z ∷ (k .seen ∙ ap (outcomes cs) left) z; left = k .left ∙ ap (final cs) left }
+as-defined {l} {l′} (c ∷ cs) os (byPreview {i = i} {buffer = buffer} {l₁ = l₁} {os = os′} p m) =
+    let k = as-defined cs os′ m in
+    let e = sym (preview-is i (length buffer) l) in
+    let seen = preview-seen p ∙ ap (λ (x : Called). x .outcome) e in
+    let left = p .lent ∙ ap (λ (x : Called). x .lent) e in
     record { seen = λ z. seen z ∷ (k .seen ∙ ap (outcomes cs) left) z; left = k .left ∙ ap (final cs) left }
 
 -- DEMAND 3 of them

@@ -1,10 +1,10 @@
 -- Demand 1 holds of the definitions: a returned number comes with no bytes used, no reply, and all left, save the mark of a full queue.
-use Prim.Native.Nat.{ℕ, _-_, _≤_}
+use Prim.Native.Nat.{ℕ, _+_, _-_, _≤_}
 use mathlib.Core.Bool.{Bool, true, false, cond}
 use mathlib.Core.List.{List, [], _∷_, map}
 use mathlib.Core.Option.{Option, none, some}
 use mathlib.Core.Path.{_≡_, refl, ap, _∙_}
-use lib.Dec.{leb, ltb}
+use lib.Dec.{leb, ltb, eqb}
 use lib.ListN.{length, replicate}
 use mathlib.Core.Logic.{_⊎_, inl, inr}
 use native.Mathlib.Omega.{arith}
@@ -23,10 +23,12 @@ use Rattle.server.specs.Names.{Args, Row, rowOf, nameWord, arguments, countRigh
 use Rattle.server.specs.Command.{Executed, runs, lists, Effect, executedOf, run}
 use Rattle.server.specs.Session.{watchedKeys, Session, Result, number, reply, Done, Decision, returns, marked, committed, direct, watching, watchFits, addKeys, outsideMulti, enqueue, queueUp, queueFits, decide, apply, execute, insideMulti, respondBy, respond}
 use Rattle.server.specs.Finish.{Served, silent, fitted, finishBy, finish, replyBuffer}
-use Rattle.calls.specs.Serve.{serveReading, serve, Outcome, refused, answered}
-use Rattle.calls.specs.Calls.{Lent, valid, storeOf, sessionOf, leaveSession, leaveServed, refuses, refusesStore, open-call, request-call, group-call, verdictBuffer}
-use Rattle.calls.proofs.CallLaws.{tested, no-session, not-valid, served, not-valid-store, not-fit, is-judged}
-use Rattle.calls.specs.Demand1.{Refusal, RequestRefused, StoreRefused, Refusals}
+use Rattle.decision.specs.Decided.{Decided, decideExec}
+use Rattle.decision.proofs.Executes.{ExecNumber, exec-number}
+use Rattle.calls.specs.Serve.{serveReading, serve, Outcome, refused, outcomeOf, answered, previewed}
+use Rattle.calls.specs.Calls.{Lent, valid, storeOf, sessionOf, leaveSession, leaveServed, refuses, refusesStore, open-call, request-call, preview-call, group-call, verdictBuffer}
+use Rattle.calls.proofs.CallLaws.{tested, no-session, not-valid, served, preview-no-session, preview-not-valid, preview-valid, not-valid-store, not-fit, is-judged}
+use Rattle.calls.specs.Demand1.{Refusal, RequestRefused, PreviewRefused, StoreRefused, Refusals}
 
 -- what a number of a session's request promises
 abbrev FitBy : Result → Session → Session → Type 0
@@ -142,9 +144,9 @@ unfolding serve
 serve-good places room input st s = reading-good room input (readRequest places input) st s
 
 -- THE CALLS.
-refusal-of : (o : Outcome) → (o .number ≡ 0 → ⊥) → o .number ≤ 9 → o .used ≡ 0 → o .reply ≡ [] → o .verdicts ≡ [] → Refusal o
+refusal-of : (o : Outcome) → (o .number ≡ 0 → ⊥) → o .number ≤ 9 → o .used ≡ 0 → o .reply ≡ [] → o .verdicts ≡ [] → o .last ≡ 0 → Refusal o
 unfolding replyBuffer verdictBuffer over-front
-refusal-of o z n u r v = record {
+refusal-of o z n u r v t = record {
   one = omega arith;
   nine = n;
   used = u;
@@ -152,9 +154,10 @@ refusal-of o z n u r v = record {
   buffer = λ room. let e : room - 0 ≡ room = omega arith in rw r (ap (λ (n : ℕ). replicate n 0) e);
   verdicts = v;
   verdictBytes = λ b. rw v;
+  last = t;
 }
 
-leave-other : (i : ℕ) (d : Served) (l : Lent) → (d .number ≡ 0 → ⊥) → (d .number ≡ 4 → ⊥) → leaveServed i d l ≡ l
+pub leave-other : (i : ℕ) (d : Served) (l : Lent) → (d .number ≡ 0 → ⊥) → (d .number ≡ 4 → ⊥) → leaveServed i d l ≡ l
 unfolding leaveServed
 leave-other i d l h k = simp (ne-eqb (d .number) 0 h, ne-eqb (d .number) 4 k)
 
@@ -167,7 +170,7 @@ served-refused : (i : ℕ) (l : Lent) (d : Served) → Good d (sessionOf i l) �
 served-refused i l d g h =
     let r : Refused d (sessionOf i l) = g h in
     record {
-      refusal = refusal-of (answered d) h (omega (arith, r .seven)) (r .used) (r .reply) refl;
+      refusal = refusal-of (answered d) h (omega (arith, r .seven)) (r .used) (r .reply) refl refl;
       number = λ k. omega (arith, r .seven);
       left = λ k. leave-other i d l h k;
       mark = λ k. leave-mark i d l k ∙ ap (λ x. leaveSession i x l) (r .mark k);
@@ -175,7 +178,7 @@ served-refused i l d g h =
 
 number-refused : (i n : ℕ) (l : Lent) → (n ≡ 0 → ⊥) → n ≤ 9 → (n ≡ 8 → ⊥) → (n ≡ 4 → ⊥) → RequestRefused i l (refuses n l)
 number-refused i n l z h e k = record {
-  refusal = refusal-of (refused n) z h refl refl refl;
+  refusal = refusal-of (refused n) z h refl refl refl refl;
   number = e;
   left = λ _. refl;
   mark = λ e. absurd (k e);
@@ -192,8 +195,47 @@ module _ (i : ℕ) (s : Bytes) (places room : ℕ) (l : Lent) where
       rw (served i s places room l e v)
       (served-refused i l (serve places room s (storeOf l) (sessionOf i l)) (serve-good places room s (storeOf l) (sessionOf i l)) (rw (served i s places room l e v) at h))
 
+-- a preview
+abbrev PreviewNumber : ℕ → Type 0
+PreviewNumber n = (n ≡ 1) ⊎ ((n ≡ 9) ⊎ ((n ≡ 6) ⊎ ((n ≡ 7) ⊎ (n ≡ 3))))
+
+preview-by : (n : ℕ) (l : Lent) → PreviewNumber n → PreviewRefused l (refuses n l)
+preview-by n l k = record { refusal = refusal-of (refused n) (above k) (below k) refl refl refl refl; number = k; verdict = refl; left = refl }
+  where
+    above : PreviewNumber n → n ≡ 0 → ⊥
+    above (inl e) z = omega arith
+    above (inr (inl e)) z = omega arith
+    above (inr (inr (inl e))) z = omega arith
+    above (inr (inr (inr (inl e)))) z = omega arith
+    above (inr (inr (inr (inr e)))) z = omega arith
+
+    below : PreviewNumber n → n ≤ 9
+    below (inl e) = omega arith
+    below (inr (inl e)) = omega arith
+    below (inr (inr (inl e))) = omega arith
+    below (inr (inr (inr (inl e)))) = omega arith
+    below (inr (inr (inr (inr e)))) = omega arith
+
+previewed-by : (last : ℕ) (d : Decided) (l : Lent) → ExecNumber (d .number) → (previewed last d .number ≡ 0 → ⊥) → PreviewRefused l (record { outcome = previewed last d; lent = l })
+unfolding previewed
+previewed-by last d l k h = go (eqb (d .number) 0) h k
+  where
+    go : (b : Bool) → (cond b (outcomeOf 0 0 (d .reply) (d .verdict ∷ []) (last + length (d .writes))) (refused (d .number)) .number ≡ 0 → ⊥) → ExecNumber (d .number)
+        → PreviewRefused l (record { outcome = cond b (outcomeOf 0 0 (d .reply) (d .verdict ∷ []) (last + length (d .writes))) (refused (d .number)); lent = l })
+    go true h k = absurd (h refl)
+    go false h (inl e) = absurd (h e)
+    go false h (inr k) = preview-by (d .number) l (inr (inr k))
+
+module _ (i room : ℕ) (l : Lent) where
+  preview-refused : (ltb i 16 ≡ true) ⊎ (ltb i 16 ≡ false) → (valid l ≡ true) ⊎ (valid l ≡ false) → (preview-call i room l .outcome .number ≡ 0 → ⊥) → PreviewRefused l (preview-call i room l)
+  preview-refused (inr e) v h = rw (preview-no-session i room l e) (preview-by 1 l (inl refl))
+  preview-refused (inl e) (inr v) h = rw (preview-not-valid i room l e v) (preview-by 9 l (inr (inl refl)))
+  preview-refused (inl e) (inl v) h =
+      rw (preview-valid i room l e v)
+      (previewed-by (storeOf l .last) (decideExec room (storeOf l) (sessionOf i l)) l (exec-number room (storeOf l) (sessionOf i l)) (rw (preview-valid i room l e v) at h))
+
 store-refused : (n : ℕ) (w : List ℕ) (b : Bytes) → (n ≡ 0 → ⊥) → n ≤ 9 → StoreRefused w b (refusesStore n w b)
-store-refused n w b z h = record { refusal = refusal-of (refused n) z h refl refl refl; words = refl; bytes = refl }
+store-refused n w b z h = record { refusal = refusal-of (refused n) z h refl refl refl refl; words = refl; bytes = refl }
 
 module _ (last versions size : ℕ) (w : List ℕ) (b : Bytes) where
   opening-refused : (t : Bool) → buffersHold w b versions size ≡ t → (open-call last versions size w b .outcome .number ≡ 0 → ⊥) →
@@ -216,4 +258,5 @@ refusals = record {
   opens = λ last versions size w b h. opening-refused last versions size w b (buffersHold w b versions size) refl h;
   requests = λ i s places room l h. request-refused i s places room l (tested (ltb i 16)) (tested (valid l)) h;
   groups = λ ms parts d v w b h. group-refused ms parts d v w b (tested (validStore w b)) (tested (groupFits parts d ms v)) h;
+  previews = λ i room l h. preview-refused i room l (tested (ltb i 16)) (tested (valid l)) h;
 }

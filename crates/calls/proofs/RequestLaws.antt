@@ -20,7 +20,7 @@ use Rattle.server.specs.Names.{Args}
 use Rattle.server.specs.Session.{Session, clear, anyMoved}
 use Rattle.server.proofs.SessionLaws.{SessionSound, session-later}
 use Rattle.server.specs.Finish.{Served}
-use Rattle.calls.specs.Serve.{serve, State, sessionIn, Outcome, refused, outcomeOf, answered, Stepped, requestOn}
+use Rattle.calls.specs.Serve.{serve, State, sessionIn, withStoreOf, withSessionOf, Outcome, refused, outcomeOf, answered, Stepped, requestOn}
 use Rattle.calls.specs.Calls.{Lent, valid, Call, request, step, firstNumber, touched}
 use Rattle.calls.specs.Posting.{Asked, askedBy, asked, told, Item, Client, closed, enter, enterAll}
 use Rattle.calls.specs.Demand3.{Accepts, NoneAccepted, asksCommand, anyItem}
@@ -35,7 +35,7 @@ use Rattle.calls.proofs.QuietLaws.{asked-inside, asked-outside, number-
 use Rattle.calls.proofs.EventLaws.{bound, Fit, AskedLaw, ended, after, Clients}
 use Rattle.calls.proofs.WatchLaws.{serve-fresh, watchIn, happens-keeps-watch}
 use Rattle.calls.proofs.VerdictLaws.{serve-due}
-use Rattle.calls.proofs.KindLaws.{Touches, Law, unmoved, SameOn, SameOnBoth, KeptStep, Kind}
+use Rattle.calls.proofs.KindLaws.{Touches, Law, unmoved, SameOn, SameOnBoth, KeptStep, EachAnswered, Kind}
 
 -- WHAT IT LEAVES AND TELLS
 module _ (i : ℕ) (s : Bytes) (places room : ℕ) (p : State) (fit : Fit p) where
@@ -52,7 +52,7 @@ module _ (i : ℕ) (s : Bytes) (places room : ℕ) (p : State) (fit : Fit p) whe
     no-session : Law (request i s places room) p (record { outcome = refused 1; state = p })
     unfolding told touched
     no-session =
-        unmoved (request i s places room) p 1 fit (after unserved fit ended) tt (λ z. omega arith)
+        unmoved (request i s places room) p (refused 1) fit (after unserved fit ended) tt (λ z. omega arith)
         (λ j k e. (λ a. neither (lt-ltb j 16 k) (ap (λ (m : ℕ). ltb m 16) (sym (a .0)) ∙ h), tt))
 
   module _ (h : i < 16) where
@@ -60,7 +60,7 @@ module _ (i : ℕ) (s : Bytes) (places room : ℕ) (p : State) (fit : Fit p) whe
     d = serve places room s (p .store) (sessionIn i p)
 
     abbrev q : State
-    q = record { store = d .store; sessions = set (p .sessions) i (d .session) }
+    q = withSessionOf i (d .session) (withStoreOf (d .store) p)
 
     kept : ServeKept (p .store) (sessionIn i p) (serve places room s (p .store) (sessionIn i p))
     kept = serve-kept (p .store) (sessionIn i p) (fit .sound) (fit .each i h) places room s
@@ -142,14 +142,14 @@ request-numbers i s places room o ds h = rw (number-entered i (askedBy s (readRe
 
 request-fed : (i : ℕ) (s : Bytes) (places room : ℕ) (o p : Outcome) → o .number ≡ p .number → o .reply ≡ p .reply → told (request i s places room) o ≡ told (request i s places room) p
 unfolding told
-request-fed i s places room o p n r = λ z. told (request i s places room) (outcomeOf (n z) 0 (r z) [])
+request-fed i s places room o p n r = λ z. told (request i s places room) (outcomeOf (n z) 0 (r z) [] 0)
 
 -- a request on the state, by the test of its session
 module _ (i : ℕ) (s : Bytes) (places room : ℕ) (p : State) where
   abbrev pub servedOn : Stepped
   servedOn =
       let d = serve places room s (p .store) (sessionIn i p) in
-      record { outcome = answered d; state = record { store = d .store; sessions = set (p .sessions) i (d .session) } }
+      record { outcome = answered d; state = withSessionOf i (d .session) (withStoreOf (d .store) p) }
 
   pub served-on : i < 16 → requestOn i s places room p ≡ servedOn
   unfolding requestOn
@@ -252,6 +252,10 @@ module _ (i : ℕ) (p q : State) (ds : List Client) (fit : Fit p) (fit′ : Fit 
           rw (served-on i s places room p h, served-on i s places room q h)
           (command-kept s places room h (own-commands i (askedBy s (readRequest places s)) (o .number) (o .reply) ds y m))
 
+request-told : (i : ℕ) (s : Bytes) (places room : ℕ) (o : Outcome) → SilentOrReply (o .reply) → EachAnswered (told (request i s places room) o)
+unfolding told
+request-told i s places room o a = (a, tt)
+
 -- ALL OF IT
 request-first : (i : ℕ) (s : Bytes) (places room : ℕ) (l : Lent) (p : State) → valid l ≡ true → (firstNumber (request i s places room) l ≡ 0 → ⊥)
     → requestOn i s places room p ≡ record { outcome = refused (firstNumber (request i s places room) l); state = p }
@@ -269,7 +273,8 @@ request-kind i s places room = record {
   first = request-first i s places room;
   fed = λ o p n r v. request-fed i s places room o p n r;
   numbers = request-numbers i s places room;
-  answers = λ j p e. request-answers i s places room p;
+  answers = λ p. request-told i s places room (requestOn i s places room p .outcome) (request-answers i s places room p);
+  refusals = λ n. request-told i s places room (refused n) noReply;
   other = λ j p q f g same e. request-same j p q f g same i s places room (eqb-differs i j e);
   own = λ j p q ds f g c same free e.
       subst (λ (n : ℕ). Keeps j p q ds f g c same free (request n s places room)) (sym (eqb-true i j e)) (request-kept j p q ds f g c same free s places room);

@@ -22,11 +22,11 @@ use Rattle.server.specs.Session.{Session, clear}
 use Rattle.server.specs.Finish as F
 use Rattle.server.proofs.SessionLaws.{SessionSound}
 use Rattle.server.proofs.LayoutLaws.{sixteen-valid, own-back, others-back, still-sixteen, sixteen-later}
-use Rattle.calls.specs.Serve.{serve, State, sessionIn, answered, Stepped, requestOn}
-use Rattle.calls.specs.Calls.{Lent, valid, storeOf, sessionOf, leaveStore, leaveSession, leaveServed, Called, StoreCalled, refuses, judged, groupCalled, request-call, group-call, Call, request, grouped, groupOn, step, outcomesOn, finalOn, firstNumber, sessionsFrom, stateIn, Touched, touched, leaveSessions, leave, call, outcomes, final}
+use Rattle.calls.specs.Serve.{serve, State, sessionIn, withStoreOf, withSessionOf, answered, execPreviewed, Stepped, requestOn, previewOn}
+use Rattle.calls.specs.Calls.{Lent, valid, storeOf, sessionOf, leaveStore, leaveSession, leaveServed, Called, StoreCalled, refuses, judged, groupCalled, request-call, preview-call, group-call, Call, request, grouped, preview, groupOn, step, outcomesOn, finalOn, firstNumber, sessionsFrom, stateIn, Touched, touched, leaveSessions, leave, call, outcomes, final}
 use Rattle.calls.proofs.LentLaws.{valid-parts, session-good, store-valid, eqb-differs, request-served, request-refused}
 use Rattle.calls.proofs.ServeLaws.{usedBy, serve-kept, serve-used}
-use Rattle.calls.proofs.CallLaws.{no-session, not-valid, served, not-valid-store, not-fit, is-judged}
+use Rattle.calls.proofs.CallLaws.{no-session, not-valid, served, preview-no-session, preview-not-valid, preview-valid, not-valid-store, not-fit, is-judged}
 use Rattle.calls.proofs.MovedLaws.{LaterFrom}
 use Rattle.calls.proofs.EventLaws.{bound, Fit}
 use Rattle.calls.proofs.KindLaws.{Absent, Small, Touches}
@@ -191,13 +191,13 @@ module _ (i : ℕ) (s : Bytes) (places room : ℕ) (l : Lent) where
   d = serve places room s (storeOf l) (sessionOf i l)
 
   abbrev q : State
-  q = record { store = d .store; sessions = set (stateIn l .sessions) i (d .session) }
+  q = withSessionOf i (d .session) (withStoreOf (d .store) (stateIn l))
 
   step-served : i < 16 → step (request i s places room) (stateIn l) ≡ record { outcome = answered d; state = q }
   unfolding step requestOn
   step-served h =
       let e : serve places room s (stateIn l .store) (sessionIn i (stateIn l)) ≡ d = λ z. serve places room s (store-at l z) (session-at l i h z) in
-      rw (lt-ltb i 16 h, requestOn) (λ z. record { outcome = answered (e z); state = record { store = e z .store; sessions = set (stateIn l .sessions) i (e z .session) } })
+      rw (lt-ltb i 16 h, requestOn) (λ z. record { outcome = answered (e z); state = withSessionOf i (e z .session) (withStoreOf (e z .store) (stateIn l)) })
 
   left-served : i < 16 → leave (touched (request i s places room) (d .number)) q l ≡ leaveServed i d l
   unfolding leave leaveSessions touched leaveServed leaveStore leaveSession
@@ -229,6 +229,30 @@ module _ (i : ℕ) (s : Bytes) (places room : ℕ) (l : Lent) where
           ∙ ap (λ (x : Lent). record { outcome = answered d; lent = x }) (left-served h)
           ∙ sym (served i s places room l e f)
 
+-- a preview
+module _ (i room : ℕ) (l : Lent) where
+  first-preview : (a b : Bool) → ltb i 16 ≡ a → valid l ≡ b → firstNumber (preview i room) l ≡ cond a (cond b 0 9) 1
+  unfolding firstNumber
+  first-preview a b e f = λ z. cond (e z) (cond (f z) 0 9) 1
+
+  step-previewed : i < 16 → step (preview i room) (stateIn l) ≡ record { outcome = execPreviewed room (storeOf l) (sessionOf i l); state = stateIn l }
+  unfolding step previewOn
+  step-previewed h =
+      rw (lt-ltb i 16 h)
+      (λ z. record { outcome = execPreviewed room (store-at l z) (session-at l i h z); state = stateIn l })
+
+  pub preview-is : call (preview i room) l ≡ preview-call i room l
+  unfolding leave leaveSessions touched
+  preview-is = go (ltb i 16) refl (valid l) refl
+    where
+      go : (a : Bool) → ltb i 16 ≡ a → (b : Bool) → valid l ≡ b → call (preview i room) l ≡ preview-call i room l
+      go false e b f = refused-first (preview i room) l 1 (first-preview false b e f) refl ∙ sym (preview-no-session i room l e)
+      go true e false f = refused-first (preview i room) l 9 (first-preview true false e f) refl ∙ sym (preview-not-valid i room l e f)
+      go true e true f =
+          stepped-first (preview i room) l (first-preview true true e f)
+          ∙ ap (λ (x : Stepped). record { outcome = x .outcome; lent = leave (touched (preview i room) (x .outcome .number)) (x .state) l }) (step-previewed (ltb-true i 16 e))
+          ∙ sym (preview-valid i room l e f)
+
 -- a group
 module _ (ms : List Member) (parts : List ℕ) (text v : Bytes) (l : Lent) where
   first-group : (a b : Bool) → validStore (l .words) (l .bytes) ≡ a → groupFits parts text ms v ≡ b → firstNumber (grouped ms parts text v) l ≡ cond a (cond b 0 8) 9
@@ -236,7 +260,7 @@ module _ (ms : List Member) (parts : List ℕ) (text v : Bytes) (l : Lent) where
   first-group a b e f = λ z. cond (e z) (cond (f z) 0 8) 9
 
   step-judged : groupFits parts text ms v ≡ true → step (grouped ms parts text v) (stateIn l)
-      ≡ (let g = group (map (pendingOf parts text) ms) (storeOf l) in record { outcome = judged g; state = record { store = g .store; sessions = stateIn l .sessions } })
+      ≡ (let g = group (map (pendingOf parts text) ms) (storeOf l) in record { outcome = judged g; state = withStoreOf (g .store) (stateIn l) })
   unfolding step groupOn stateIn
   step-judged f = rw (f, groupOn)
 

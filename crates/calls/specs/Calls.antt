@@ -1,12 +1,12 @@
 -- The published calls on lent words and bytes: what each returns, and every lent word and byte afterwards.
--- The order of the numbers is 1, 9, 8, 2, 4, 5, 6, 7, 3.
+-- The order of the numbers is 1, 9, 8, 2, 4, 5, 6, 7, 3; a preview has 1, 9, 6, 7, 3 of them.
 use Prim.Native.Nat.{ℕ, zero, suc, _/_}
 use mathlib.Core.Bool.{Bool, true, false, cond, _||_}
 use mathlib.Core.List.{List, [], _∷_, map}
 use mathlib.Core.Path.{_≡_}
 use mathlib.Core.Option.{Option, none, some}
 use lib.Dec.{ltb, eqb}
-use lib.ListN.{length, take}
+use lib.ListN.{length, take, getD}
 use Rattle.key.specs.Bytes.{Bytes, _and_, over-front}
 use Rattle.resp.specs.Request.{readRequest}
 use Rattle.resp.specs.Steps.{argumentWords}
@@ -19,7 +19,8 @@ use Rattle.server.specs.Session.{Session}
 use Rattle.server.specs.Sessions.{sessionAt, validSessions, leaveSessionWords, leaveSessionBytes}
 use Rattle.server.specs.declared.Answer.{Answer}
 use Rattle.server.specs.Finish.{Served, replyBuffer}
-use Rattle.calls.specs.Serve.{serve, State, sessionIn, Outcome, refused, outcomeOf, answered, Stepped, requestOn}
+use Rattle.decision.specs.declared.Preview.{Preview}
+use Rattle.calls.specs.Serve.{serve, State, sessionIn, withStoreOf, Outcome, refused, outcomeOf, answered, execPreviewed, Stepped, requestOn, previewOn}
 
 -- the lent state: a store and sixteen sessions
 pub record Lent : Type 0 where
@@ -112,9 +113,27 @@ request-call i input places room l = elim (ltb i 16) [
 abbrev pub answerOf : Outcome → Answer
 answerOf o = record { number = o .number; used = o .used; reply = length (o .reply) }
 
+-- PREVIEW of EXEC: the lent state stays. The arguments: the session and the length of the reply buffer
+unfoldable pub preview-call : ℕ → ℕ → Lent → Called
+preview-call i room l = elim (ltb i 16) [
+  | false ↦ refuses 1 l
+  | true ↦ elim (valid l) [
+    | false ↦ refuses 9 l
+    | true ↦ record { outcome = execPreviewed room (storeOf l) (sessionOf i l); lent = l }
+  ]
+]
+
+-- the verdict byte of a preview; 255 if none is reached, and with a number
+abbrev pub verdictIn : Outcome → ℕ
+verdictIn o = getD (o .verdicts) 0 255
+
+-- the struct that the preview call returns
+abbrev pub previewOf : Outcome → Preview
+previewOf o = record { number = o .number; verdict = verdictIn o; reply = length (o .reply); last = o .last }
+
 -- GROUP. 9, then 8; a call that returns one of them writes no verdict byte.
 abbrev pub judged : Finished → Outcome
-judged g = outcomeOf 0 0 [] (map verdictByte (g .verdicts))
+judged g = outcomeOf 0 0 [] (map verdictByte (g .verdicts)) 0
 
 -- the arguments: members, the table of parts, the data, and the verdict bytes
 unfoldable pub group-call : List Member → List ℕ → Bytes → Bytes → List ℕ → Bytes → StoreCalled
@@ -148,6 +167,12 @@ pub record TablePromise (i : ℕ) (input : Bytes) (l : Lent) (t t′ : List ℕ)
   pub parts : ltb i 16 ≡ true → valid l ≡ true → take (length (argumentWords (readRequest (length t / 2) input))) t′ ≡ argumentWords (readRequest (length t / 2) input)
   pub unread : (ltb i 16 and valid l) ≡ false → t′ ≡ t
 
+-- a preview leaves the store and the sessions as they were
+pub record PreviewPromise (i : ℕ) (buffer : Bytes) (l : Lent) (r : Preview) (buffer′ : Bytes) (l′ : Lent) : Type 0 where
+  pub preview : r ≡ previewOf (preview-call i (length buffer) l .outcome)
+  pub reply : buffer′ ≡ replyBuffer (length buffer) (preview-call i (length buffer) l .outcome .reply)
+  pub lent : l′ ≡ preview-call i (length buffer) l .lent
+
 -- `v` are the verdict bytes, before and after
 pub record GroupPromise (ms : List Member) (parts : List ℕ) (d v : Bytes) (w : List ℕ) (b : Bytes) (r : ℕ) (v′ : Bytes) (w′ : List ℕ) (b′ : Bytes) : Type 0 where
   pub number : r ≡ group-call ms parts d v w b .outcome .number
@@ -155,15 +180,17 @@ pub record GroupPromise (ms : List Member) (parts : List ℕ) (d v : Bytes) (w :
   pub words : w′ ≡ group-call ms parts d v w b .words
   pub bytes : b′ ≡ group-call ms parts d v w b .bytes
 
--- A LIST OF CALLS, each on what the last one left, with its own request or group and its own reply buffer.
+-- A LIST OF CALLS, each on what the last one left, with its own request, group or preview and its own reply buffer.
 pub data Call : Type 0 where
   request : ℕ → Bytes → ℕ → ℕ → Call
   grouped : List Member → List ℕ → Bytes → Bytes → Call
+  preview : ℕ → ℕ → Call
 
--- the session that sends the call; a group has none
-abbrev pub sender : Call → Option ℕ
-sender (request i input places room) = some i
-sender (grouped ms parts d verdicts) = none
+-- the session that the call belongs to; a group has none
+abbrev pub ownerOf : Call → Option ℕ
+ownerOf (request i input places room) = some i
+ownerOf (grouped ms parts d verdicts) = none
+ownerOf (preview i room) = some i
 
 -- THE MEANING OF A CALL, on the state. A group: 8, or the verdicts
 unfoldable pub groupOn : List Member → List ℕ → Bytes → Bytes → State → Stepped
@@ -171,13 +198,14 @@ groupOn ms parts d verdicts st = elim (groupFits parts d ms verdicts) [
   | false ↦ record { outcome = refused 8; state = st }
   | true ↦
       let g = group (map (pendingOf parts d) ms) (st .store) in
-      record { outcome = judged g; state = record { store = g .store; sessions = st .sessions } }
+      record { outcome = judged g; state = withStoreOf (g .store) st }
 ]
 
 -- one call on the state
 unfoldable pub step : Call → State → Stepped
 step (request i input places room) st = requestOn i input places room st
 step (grouped ms parts d verdicts) st = groupOn ms parts d verdicts st
+step (preview i room) st = previewOn i room st
 
 -- what the calls answer
 unfoldable pub outcomesOn : List Call → State → List Outcome
@@ -193,6 +221,7 @@ finalOn (c ∷ cs) st = finalOn cs (step c st .state)
 unfoldable pub firstNumber : Call → Lent → ℕ
 firstNumber (request i input places room) l = cond (ltb i 16) (cond (valid l) 0 9) 1
 firstNumber (grouped ms parts d verdicts) l = cond (validStore (l .words) (l .bytes)) (cond (groupFits parts d ms verdicts) 0 8) 9
+firstNumber (preview i room) l = cond (ltb i 16) (cond (valid l) 0 9) 1
 
 -- the sessions from i on, n of them
 unfoldable pub sessionsFrom : ℕ → ℕ → Lent → List Session
@@ -212,6 +241,7 @@ pub record Touched : Type 0 where
 unfoldable pub touched : Call → ℕ → Touched
 touched (request i input places room) n = record { store = eqb n 0; sessions = cond (eqb n 0 || eqb n 4) (i ∷ []) [] }
 touched (grouped ms parts d verdicts) n = record { store = eqb n 0; sessions = [] }
+touched (preview i room) n = record { store = false; sessions = [] }
 
 -- sessions written back
 unfoldable pub leaveSessions : List ℕ → State → Lent → Lent

@@ -4,6 +4,7 @@ use mathlib.Core.Bool.{cond}
 use mathlib.Core.List.{List, [], _∷_, _++_, map}
 use mathlib.Core.Option.{Option, none}
 use mathlib.Core.Path.{_≡_}
+use lib.Dec.{eqb}
 use lib.IntN.{ℤ}
 use Rattle.key.specs.Bytes.{Bytes, concat}
 use Rattle.key.specs.Keys.{Key}
@@ -11,10 +12,9 @@ use Rattle.resp.specs.Reply.{Reply, encode}
 use Rattle.memtable.specs.Table.{find}
 use Rattle.memtable.specs.Versions.{table}
 use Rattle.capture.specs.Streams.{OneLine, Texts, stream, Each}
-use Rattle.calls.specs.Serve.{Outcome}
 use Rattle.calls.specs.Calls.{Lent, storeOf, Call, outcomes, final}
-use Rattle.calls.specs.Posting.{Item}
-use Rattle.calls.specs.Demand3.{Opened, itemsOf, isOf, OnlyCounted, SumOf, textOf}
+use Rattle.calls.specs.Posting.{Event, asked, wrote, events, Item}
+use Rattle.calls.specs.Demand3.{Opened, itemsOf, OnlyCounted, SumOf, textOf}
 
 -- AN ANSWER has no bytes, or those of one reply
 pub data SilentOrReply : Bytes → Type 0 where
@@ -26,29 +26,33 @@ abbrev pub withAnswer : Bytes → List Bytes → List Bytes
 withAnswer [] bs = bs
 withAnswer (b ∷ s) bs = (b ∷ s) ∷ bs
 
--- the answers to session i, in the order of its calls
-unfoldable pub answersTo : ℕ → List Call → List Outcome → List Bytes
-answersTo i [] os = []
-answersTo i (c ∷ cs) [] = []
-answersTo i (c ∷ cs) (o ∷ os) = cond (isOf i c) (withAnswer (o .reply) (answersTo i cs os)) (answersTo i cs os)
+-- the answers to session i, in the order of the events
+unfoldable pub answersTo : ℕ → List Event → List Bytes
+answersTo i [] = []
+answersTo i (asked j x n b ∷ es) = cond (eqb j i) (withAnswer b (answersTo i es)) (answersTo i es)
+answersTo i (wrote ws ∷ es) = answersTo i es
 
--- the bytes that it receives
+-- those that it receives over a list of calls; the bytes of a preview are no reply
+abbrev pub repliesTo : ℕ → List Call → Lent → List Bytes
+repliesTo i cs l = answersTo i (events cs (outcomes cs l))
+
+-- and their bytes
 abbrev pub captureOf : ℕ → List Call → Lent → Bytes
-captureOf i cs l = concat (answersTo i cs (outcomes cs l))
+captureOf i cs l = concat (repliesTo i cs l)
 
 -- over any list of calls, from any lent state on
 pub record CaptureTells (i : ℕ) (cs : List Call) (l : Lent) : Type 0 where
   -- each answer is one reply, whose texts are free of CR and LF
   pub replies : List Reply
   pub lines : Each (Texts OneLine) replies
-  pub each : answersTo i cs (outcomes cs l) ≡ map encode replies
+  pub each : repliesTo i cs l ≡ map encode replies
   -- no other such replies are the whole capture
   pub the-only : (rs : List Reply) → Each (Texts OneLine) rs → stream rs ≡ captureOf i cs l → rs ≡ replies
   -- of any replies: those that the capture begins with are the first answers, and what follows them is the bytes of the others
   pub front : (rs : List Reply) (x : Bytes) → stream rs ++ x ≡ captureOf i cs l →
-      (others : List Bytes) × (answersTo i cs (outcomes cs l) ≡ map encode rs ++ others) × (x ≡ concat others)
+      (others : List Bytes) × (repliesTo i cs l ≡ map encode rs ++ others) × (x ≡ concat others)
   -- and those that are the whole capture are all the answers, by their bytes
-  pub only : (rs : List Reply) → stream rs ≡ captureOf i cs l → answersTo i cs (outcomes cs l) ≡ map encode rs
+  pub only : (rs : List Reply) → stream rs ≡ captureOf i cs l → repliesTo i cs l ≡ map encode rs
 
 -- for every session
 abbrev pub CaptureClaim : Type 0

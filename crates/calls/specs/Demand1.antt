@@ -9,9 +9,9 @@ use Rattle.batch.specs.declared.Member.{Member}
 use Rattle.server.specs.Session.{marked}
 use Rattle.server.specs.Finish.{replyBuffer}
 use Rattle.calls.specs.Serve.{Outcome}
-use Rattle.calls.specs.Calls.{Lent, sessionOf, leaveSession, Called, StoreCalled, open-call, request-call, group-call, verdictBuffer}
+use Rattle.calls.specs.Calls.{Lent, sessionOf, leaveSession, Called, StoreCalled, open-call, request-call, preview-call, verdictIn, group-call, verdictBuffer}
 
--- what a returned number comes with: the whole reply buffer is zero, and no verdict byte is written
+-- what a returned number comes with: the whole reply buffer is zero, no verdict byte is written, and no last sequence is told
 pub record Refusal (o : Outcome) : Type 0 where
   pub one : 1 ≤ o .number
   pub nine : o .number ≤ 9
@@ -20,6 +20,7 @@ pub record Refusal (o : Outcome) : Type 0 where
   pub buffer : (room : ℕ) → replyBuffer room (o .reply) ≡ replicate room 0
   pub verdicts : o .verdicts ≡ []
   pub verdictBytes : (v : Bytes) → verdictBuffer o v ≡ v
+  pub last : o .last ≡ 0
 
 -- a request call; 8 is a group's
 pub record RequestRefused (i : ℕ) (l : Lent) (c : Called) : Type 0 where
@@ -27,6 +28,13 @@ pub record RequestRefused (i : ℕ) (l : Lent) (c : Called) : Type 0 where
   pub number : c .outcome .number ≡ 8 → ⊥
   pub left : (c .outcome .number ≡ 4 → ⊥) → c .lent ≡ l
   pub mark : c .outcome .number ≡ 4 → c .lent ≡ leaveSession i (marked (sessionOf i l)) l
+
+-- a preview returns 1, 9, 6, 7 or 3, each with verdict 255
+pub record PreviewRefused (l : Lent) (c : Called) : Type 0 where
+  pub refusal : Refusal (c .outcome)
+  pub number : (c .outcome .number ≡ 1) ⊎ ((c .outcome .number ≡ 9) ⊎ ((c .outcome .number ≡ 6) ⊎ ((c .outcome .number ≡ 7) ⊎ (c .outcome .number ≡ 3))))
+  pub verdict : verdictIn (c .outcome) ≡ 255
+  pub left : c .lent ≡ l
 
 -- a call that is lent the store alone
 pub record StoreRefused (w : List ℕ) (b : Bytes) (c : StoreCalled) : Type 0 where
@@ -44,3 +52,4 @@ pub record Refusals : Type 0 where
       (group-call ms parts d v w b .outcome .number ≡ 0 → ⊥) →
       StoreRefused w b (group-call ms parts d v w b)
       × ((group-call ms parts d v w b .outcome .number ≡ 8) ⊎ (group-call ms parts d v w b .outcome .number ≡ 9))
+  pub previews : (i room : ℕ) (l : Lent) → (preview-call i room l .outcome .number ≡ 0 → ⊥) → PreviewRefused l (preview-call i room l)

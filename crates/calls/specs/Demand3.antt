@@ -20,7 +20,7 @@ use Rattle.server.specs.Names.{Args, Control, MULTI, EXEC, DISCARD, WATCH, UNWA
 use Rattle.server.specs.Command.{Command, GET, SET, DEL, EXISTS, MGET, MSET, COUNT, FIXED, Executed, runs, lists}
 use Rattle.server.specs.Session.{clear}
 use Rattle.calls.specs.Serve.{Outcome}
-use Rattle.calls.specs.Calls.{Lent, valid, storeOf, sessionOf, Call, request, grouped, sender, call, outcomes, final, request-call, group-call, groupCalled}
+use Rattle.calls.specs.Calls.{Lent, valid, storeOf, sessionOf, Call, request, grouped, preview, ownerOf, call, outcomes, final, request-call, group-call, groupCalled, preview-call}
 use Rattle.calls.specs.Posting.{Asked, nothing, broken, asks, isArray, Event, asked, wrote, told, events, Item, alone, listed, exec, member, Client, closed, enter, enterAll, history, closedClients, posted, post, postAll, AllHold}
 use Rattle.calls.specs.Verdicts.{setKeys, asksExec, staleIn, newTransaction, VerdictsPosted}
 
@@ -46,7 +46,7 @@ pub record Demand3 (cs : List Call) (l : Lent) : Type 0 where
 abbrev pub Claim : Type 0
 Claim = (cs : List Call) (l : Lent) → Opened l → Demand3 cs l
 
--- Posting is fed a call's number, reply and verdicts alone: not the bytes used.
+-- Posting is fed a call's number, reply and verdicts alone: neither the bytes used nor the last sequence.
 abbrev pub FedClaim : Type 0
 FedClaim =
     (c : Call) (o p : Outcome) → o .number ≡ p .number → o .reply ≡ p .reply → o .verdicts ≡ p .verdicts → told c o ≡ told c p
@@ -194,7 +194,7 @@ pub record SameFor (i : ℕ) (l m : Lent) : Type 0 where
   pub store : storeOf l ≡ storeOf m
   pub session : sessionOf i l ≡ sessionOf i m
 
--- the three parts
+-- the four parts
 pub record Isolated : Type 0 where
   pub answers : (i : ℕ) (s : Bytes) (places room : ℕ) (l m : Lent) → valid l ≡ true → valid m ≡ true → SameFor i l m →
       request-call i s places room l .outcome ≡ request-call i s places room m .outcome
@@ -202,6 +202,7 @@ pub record Isolated : Type 0 where
       SameFor i (request-call i s places room l .lent) (request-call i s places room m .lent)
   pub others : (i j : ℕ) (s : Bytes) (places room : ℕ) (l : Lent) → valid l ≡ true → j < 16 → (j ≡ i → ⊥) →
       sessionOf j (request-call i s places room l .lent) ≡ sessionOf j l
+  pub previews : (i room : ℕ) (l m : Lent) → valid l ≡ true → valid m ≡ true → SameFor i l m → preview-call i room l .outcome ≡ preview-call i room m .outcome
 
 -- what a call posts, by its arguments and its answer
 abbrev pub postedBy : Call → Lent → List Client → List Item
@@ -249,7 +250,7 @@ isSession i (some j) = eqb j i
 
 -- the call is one of session i
 abbrev pub isOf : ℕ → Call → Bool
-isOf i c = isSession i (sender c)
+isOf i c = isSession i (ownerOf c)
 
 -- the calls that are none of session i
 unfoldable pub without : ℕ → List Call → List Call
@@ -262,7 +263,7 @@ toOthers i [] os = []
 toOthers i (c ∷ cs) [] = []
 toOthers i (c ∷ cs) (o ∷ os) = cond (isOf i c) (toOthers i cs os) (o ∷ toOthers i cs os)
 
--- no request of session i posts: it queues and watches, and no EXEC of it is accepted
+-- no call of session i posts: it queues and watches, and no EXEC of it is accepted
 abbrev pub PostsNothing : ℕ → List Call → Lent → List Client → Type 0
 PostsNothing i [] l ds = Unit {0}
 PostsNothing i (c ∷ cs) l ds =
@@ -273,13 +274,13 @@ pub record SameBut (i : ℕ) (l m : Lent) : Type 0 where
   pub store : storeOf l ≡ storeOf m
   pub sessions : (j : ℕ) → j < 16 → (j ≡ i → ⊥) → sessionOf j l ≡ sessionOf j m
 
--- every other call is answered as without the requests of session i
+-- every other call is answered as without the calls of session i
 pub record Unaltered (i : ℕ) (cs : List Call) (l m : Lent) : Type 0 where
   pub answers : toOthers i cs (outcomes cs l) ≡ outcomes (without i cs) m
   pub left : SameBut i (final cs l) (final (without i cs) m)
 
 -- From an opened store on, what session i has queued or watched alters no answer to another until its EXEC is accepted: `m` is
--- what the calls `before` left, but for session i, and the later calls without its requests get the same answers and verdicts.
+-- what the calls `before` left, but for session i, and the later calls without its own get the same answers and verdicts.
 abbrev pub IsolationClaim : Type 0
 IsolationClaim =
     (before cs : List Call) (l m : Lent) (i : ℕ) → Opened l → valid m ≡ true → SameBut i (final before l) m →
@@ -290,7 +291,7 @@ abbrev pub anyItem : List Item → Bool
 anyItem [] = false
 anyItem (x ∷ xs) = true
 
--- all but the requests of session i that post nothing are kept
+-- all but the calls of session i that post nothing are kept
 abbrev pub isKept : ℕ → Call → List Item → Bool
 isKept i c xs = not (isOf i c) || anyItem xs
 
@@ -339,6 +340,7 @@ ValidClaim = (cs : List Call) (l : Lent) → Opened l → (valid (final cs l) �
 pub record CallsClaim : Type 0 where
   pub requests : (i : ℕ) (s : Bytes) (places room : ℕ) (l : Lent) → call (request i s places room) l ≡ request-call i s places room l
   pub groups : (ms : List Member) (parts : List ℕ) (d v : Bytes) (l : Lent) → call (grouped ms parts d v) l ≡ groupCalled l (group-call ms parts d v (l .words) (l .bytes))
+  pub previews : (i room : ℕ) (l : Lent) → call (preview i room) l ≡ preview-call i room l
 
 -- DEMAND 3 WHOLE, with the sentence on other sessions.
 pub record Demand3Holds : Type 0 where

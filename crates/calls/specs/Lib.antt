@@ -6,6 +6,7 @@ pub mod Posting
 pub mod Verdicts
 pub mod Demand3
 pub mod Captures
+pub mod Previews
 pub mod Made
 pub mod Frames
 pub mod Opens

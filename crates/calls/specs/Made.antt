@@ -14,19 +14,24 @@ use Rattle.batch.specs.declared.Member.{Member}
 use Rattle.server.specs.Session.{clear}
 use Rattle.server.specs.Sessions.{sessionAt, validSessions}
 use Rattle.server.specs.declared.Answer.{Answer}
+use Rattle.decision.specs.declared.Preview.{Preview}
 use Rattle.calls.specs.Serve.{Outcome, outcomeOf}
-use Rattle.calls.specs.Calls.{Lent, lentOf, valid, storeOf, sessionOf, withStore, OpenPromise, RequestPromise, GroupPromise, Call, request, grouped}
+use Rattle.calls.specs.Calls.{Lent, lentOf, valid, storeOf, sessionOf, withStore, OpenPromise, RequestPromise, PreviewPromise, GroupPromise, Call, request, grouped, preview}
 use Rattle.calls.specs.Posting.{events, Item, Client, history, closedClients, postAll, AllHold}
 use Rattle.calls.specs.Verdicts.{newTransaction, VerdictsPosted}
 use Rattle.calls.specs.Demand3.{Opened, OnlyCounted, textOf, sum, SumOf, NoStaleExec, NoStalePosted, clientsAfter, without, toOthers, PostsNothing, SameBut, keptCalls, keptOutcomes, NoneAccepted, NoNine}
 
 -- WHAT THE CALLER SEES of a request: the reply is in front of the reply buffer
 abbrev pub requestSeen : Answer → Bytes → Outcome
-requestSeen r buffer = outcomeOf (r .number) (r .used) (take (r .reply) buffer) []
+requestSeen r buffer = outcomeOf (r .number) (r .used) (take (r .reply) buffer) [] 0
 
 -- and of a group: a verdict byte for each member, unless a number is returned
 abbrev pub groupSeen : ℕ → List Member → Bytes → Outcome
-groupSeen n ms v = outcomeOf n 0 [] (cond (eqb n 0) (take (length ms) v) [])
+groupSeen n ms v = outcomeOf n 0 [] (cond (eqb n 0) (take (length ms) v) []) 0
+
+-- and of a preview: its verdict, unless a number is returned
+abbrev pub previewSeen : Preview → Bytes → Outcome
+previewSeen r buffer = outcomeOf (r .number) 0 (take (r .reply) buffer) (cond (eqb (r .number) 0) (r .verdict ∷ []) []) (r .last)
 
 -- the lent memory before the calls, the calls, what the caller saw of each, and the lent memory after them
 pub data Made : Lent → List Call → List Outcome → Lent → Type 0 where
@@ -37,6 +42,9 @@ pub data Made : Lent → List Call → List Outcome → Lent → Type 0 where
   byGroup : {ms : List Member} {parts : List ℕ} {d v : Bytes} {l : Lent} {n : ℕ} {v′ : Bytes} {w′ : List ℕ} {b′ : Bytes} {l₂ : Lent} {cs : List Call} {os : List Outcome}
       → GroupPromise ms parts d v (l .words) (l .bytes) n v′ w′ b′ → Made (withStore w′ b′ l) cs os l₂
       → Made l (grouped ms parts d v ∷ cs) (groupSeen n ms v′ ∷ os) l₂
+  byPreview : {i : ℕ} {buffer : Bytes} {l : Lent} {r : Preview} {buffer′ : Bytes} {l₁ l₂ : Lent} {cs : List Call} {os : List Outcome}
+      → PreviewPromise i buffer l r buffer′ l₁ → Made l₁ cs os l₂
+      → Made l (preview i (length buffer) ∷ cs) (previewSeen r buffer′ ∷ os) l₂
 
 -- the items of posting's history, by what the caller saw
 abbrev pub itemsSeen : List Call → List Outcome → List Item
@@ -71,7 +79,7 @@ ZeroClaim =
     (last n : ℕ) (sb : Bytes) → 16 * 644 ≤ n → 16 * 10240 ≤ length sb
     → (validSessions last (replicate n 0) sb ≡ true) × ((i : ℕ) → i < 16 → sessionAt i (replicate n 0) sb ≡ clear)
 
--- What session i has queued or watched alters no answer to another until its EXEC is accepted: the same calls made without its requests,
+-- What session i has queued or watched alters no answer to another until its EXEC is accepted: the same calls made without its own,
 -- on what the first calls left but for session i, are answered alike.
 pub record SeenAlike (i : ℕ) (cs : List Call) (os os′ : List Outcome) (l m : Lent) : Type 0 where
   pub answers : toOthers i cs os ≡ os′

@@ -20,7 +20,7 @@ use Rattle.server.specs.Names.{Args, rowOf, nameWord, arguments, Control, MULTI
 use Rattle.server.specs.Command.{Command, Listing, Executed, runs, lists, Effect, executedOf, run, answerListing}
 use Rattle.server.specs.Session.{queuedReply, execAbort}
 use Rattle.calls.specs.Serve.{Outcome}
-use Rattle.calls.specs.Calls.{Call, request, grouped}
+use Rattle.calls.specs.Calls.{Call, request, grouped, preview}
 
 -- WHAT WAS ASKED, by the bytes handed in: nothing whole, a protocol error, or a request that is not empty.
 pub data Asked : Type 0 where
@@ -60,10 +60,11 @@ acceptedIn [] vs = []
 acceptedIn (m ∷ ms) [] = []
 acceptedIn (m ∷ ms) (v ∷ vs) = cond (eqb v 0) (wrote (m .writes) ∷ acceptedIn ms vs) (acceptedIn ms vs)
 
--- by a call and its outcome
+-- by a call and its outcome; a preview tells nothing
 unfoldable pub told : Call → Outcome → List Event
 told (request i s places room) o = asked i (askedBy s (readRequest places s)) (o .number) (o .reply) ∷ []
 told (grouped ms parts d verdicts) o = cond (eqb (o .number) 0) (acceptedIn (map (pendingOf parts d) ms) (o .verdicts)) []
+told (preview i room) o = []
 
 -- by a list of calls with their outcomes
 unfoldable pub events : List Call → List Outcome → List Event

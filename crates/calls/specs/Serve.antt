@@ -1,8 +1,9 @@
--- A request on one session (document 01, sections 3 and 7, and the returned numbers), and the state of all sessions.
-use Prim.Native.Nat.{ℕ}
-use mathlib.Core.Bool.{true, false}
+-- A request on one session (document 01, sections 3 and 7, and the returned numbers), a preview of its EXEC (document 02, R-6), and the state of all
+-- sessions.
+use Prim.Native.Nat.{ℕ, _+_}
+use mathlib.Core.Bool.{true, false, cond}
 use mathlib.Core.List.{List, [], _∷_, _++_, map}
-use lib.Dec.{ltb}
+use lib.Dec.{ltb, eqb}
 use lib.ListN.{length, getD, set, replicate}
 use Rattle.key.specs.Bytes.{Bytes, bytes}
 use Rattle.resp.specs.declared.Fault.{Fault}
@@ -12,6 +13,7 @@ use Rattle.memtable.specs.Versions.{Store}
 use Rattle.memtable.specs.Layout.{emptyStore}
 use Rattle.server.specs.Session.{Session, clear, says, respond}
 use Rattle.server.specs.Finish.{Served, silent, finish}
+use Rattle.decision.specs.Decided.{Decided, decideExec}
 
 -- the reply to a protocol error
 unfoldable pub protocolError : Bytes → Fault → Reply
@@ -38,28 +40,45 @@ pub record State : Type 0 where
 abbrev pub sessionIn : ℕ → State → Session
 sessionIn i st = getD (st .sessions) i clear
 
+-- with another store
+abbrev pub withStoreOf : Store → State → State
+withStoreOf x st = record { store = x; sessions = st .sessions }
+
+-- with another session i
+abbrev pub withSessionOf : ℕ → Session → State → State
+withSessionOf i s st = record { store = st .store; sessions = set (st .sessions) i s }
+
 -- an empty store just opened, and sixteen clear sessions
 unfoldable pub openState : ℕ → ℕ → ℕ → State
 openState last versions size = record { store = emptyStore last versions size; sessions = replicate 16 clear }
 
--- what a call answers: 0 or a number, the bytes used, the reply, and the verdict bytes that it wrote
+-- what a call answers: 0 or a number, the bytes used, the reply, the verdict bytes, and the last sequence that a preview gives
 pub record Outcome : Type 0 where
   pub number : ℕ
   pub used : ℕ
   pub reply : Bytes
   pub verdicts : Bytes
+  pub last : ℕ
 
--- AN OUTCOME: a number without reply and verdicts
+-- AN OUTCOME: a number alone
 abbrev pub refused : ℕ → Outcome
-refused n = record { number = n; used = 0; reply = []; verdicts = [] }
+refused n = record { number = n; used = 0; reply = []; verdicts = []; last = 0 }
 
 -- or an answer
-abbrev pub outcomeOf : ℕ → ℕ → Bytes → Bytes → Outcome
-outcomeOf n used reply verdicts = record { number = n; used = used; reply = reply; verdicts = verdicts }
+abbrev pub outcomeOf : ℕ → ℕ → Bytes → Bytes → ℕ → Outcome
+outcomeOf n used reply verdicts last = record { number = n; used = used; reply = reply; verdicts = verdicts; last = last }
 
 -- the outcome of a request
 abbrev pub answered : Served → Outcome
-answered d = outcomeOf (d .number) (d .used) (d .reply) []
+answered d = outcomeOf (d .number) (d .used) (d .reply) [] 0
+
+-- the outcome of a preview, on a store with this last sequence: the verdict byte, the reply, and the last sequence that EXEC would leave
+unfoldable pub previewed : ℕ → Decided → Outcome
+previewed last d = cond (eqb (d .number) 0) (outcomeOf 0 0 (d .reply) (d .verdict ∷ []) (last + length (d .writes))) (refused (d .number))
+
+-- of EXEC of a session, with a reply buffer of this length
+abbrev pub execPreviewed : ℕ → Store → Session → Outcome
+execPreviewed room st s = previewed (st .last) (decideExec room st s)
 
 -- an outcome, and the state after it
 pub record Stepped : Type 0 where
@@ -71,6 +90,10 @@ unfoldable pub requestOn : ℕ → Bytes → ℕ → ℕ → State → Stepped
 requestOn i input places room st = elim (ltb i 16) [
   | true ↦
       let d = serve places room input (st .store) (sessionIn i st) in
-      record { outcome = answered d; state = record { store = d .store; sessions = set (st .sessions) i (d .session) } }
+      record { outcome = answered d; state = withSessionOf i (d .session) (withStoreOf (d .store) st) }
   | false ↦ record { outcome = refused 1; state = st }
 ]
+
+-- a preview of EXEC on the state, which stays: 1 for a session above 15
+unfoldable pub previewOn : ℕ → ℕ → State → Stepped
+previewOn i room st = record { outcome = cond (ltb i 16) (execPreviewed room (st .store) (sessionIn i st)) (refused 1); state = st }

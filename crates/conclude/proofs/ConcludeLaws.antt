@@ -1,37 +1,32 @@
 -- The end of an EXEC, from the answer, the commit and the session cleared. Assumes nothing.
-use Prim.Native.Nat.{ℕ, _+_, _^_}
+use Prim.Native.Nat.{ℕ, _-_, _≤_}
+use native.Mathlib.Omega.{arith}
 use mathlib.Core.Path.{_≡_, sym, ap, _∙_, subst}
-use mathlib.Core.Bool.{Bool, true, false, not, _&&_}
-use mathlib.Core.List.{List}
-use lib.Dec.{leb, ltb}
-use lib.ListN.{length, getD, replicate}
-use borrow.Author.Tests.{not-true, not-false}
+use mathlib.Core.List.{List, _++_}
+use lib.ListN.{length, replicate}
 use Rattle.key.specs.Bytes.{Bytes}
 use Rattle.writing.specs.declared.Put.{Put}
 use Rattle.writing.specs.declared.Put.the-variants.{Wrote, Full}
-use Rattle.writing.proofs.Puts.{length-kept}
-use Rattle.resp.specs.Reply.{Reply}
 use Rattle.memtable.specs.Table.{Write}
-use Rattle.memtable.specs.Versions.{Store, versionsSize, commit}
+use Rattle.memtable.specs.Versions.{Store, commit}
 use Rattle.memtable.specs.Layout.{storeIn, leaveWords, leaveBytes}
-use Rattle.memtable.specs.Rows.{Valid, roomIn}
-use Rattle.memtable.proofs.Opening.{room-is}
+use Rattle.memtable.specs.Rows.{Valid}
 use Rattle.memtable.proofs.Sequence.{leave-words-same, leave-bytes-same}
-use Rattle.batch.specs.Group.{hasRoom, hasSequences}
 use Rattle.batch.specs.Members.{listFrom, writeAt}
-use Rattle.batch.specs.Settling.{RoomFor, sizesFrom}
-use Rattle.batch.proofs.Settled.{room-granted}
 use Rattle.server.specs.declared.Answer.{Answer}
-use Rattle.server.specs.Session.{Session, Done, clear, says, returns}
+use Rattle.server.specs.Session.{clear}
 use Rattle.server.specs.Sessions.{sessionFrom}
 use Rattle.server.specs.Held.{Held, Left, cleared}
-use Rattle.server.specs.Finish.{Served, silent, finishBy, finish}
+use Rattle.server.specs.Finish.{Served, silent, replyBuffer}
 use Rattle.sessions.proofs.Kept.{words-kept, bytes-kept, bytes-cleared}
 use Rattle.memtable.proofs.TableLaws.{Ascending}
 use Rattle.own.specs.Own.{ownWrites, Own}
-use Rattle.own.proofs.Growing.{own-count, own-sizes}
+use Rattle.own.proofs.Growing.{none-writes}
 use Rattle.answer.specs.Answers.{refusal}
-use Rattle.conclude.specs.Leaving.{Leaves, Closes, Commits, concluded, Concludes}
+use Rattle.decision.proofs.Executes.{applied-zero, applied-number}
+use Rattle.conclude.specs.declared.Prepared.{Prepared}
+use Rattle.conclude.specs.Leaving.{Leaves, Closes}
+use Rattle.conclude.specs.Deciding.{Applies}
 use Rattle.answer.proofs.Finish.{finish-wrote, says-wrote, finish-full, full-cleared, says-number}
 
 -- the same call under another name
@@ -69,29 +64,32 @@ module _ {put : Put} (used : ℕ) {s : List ℕ} where
         (rw r-is (all-left 3 out w b s sb v h (full-cleared x p used (storeIn w b) (storeIn w b) (sessionFrom s sb) clear e)));
   }
 
--- WITH WRITES
-module _ (ws : List Write) {put : Put} (used : ℕ) (w b : List ℕ) {s : List ℕ} where
-  pub commits-wrote : {w′ b′ s′ : List ℕ} {n : ℕ} → put ≡ Wrote n → w′ ≡ leaveWords (commit ws (storeIn w b)) w → b′ ≡ leaveBytes (commit ws (storeIn w b)) b → Left cleared s s′
-      → Commits ws put used w b s w′ b′ s′ (record { number = 0; used = used; reply = n })
-  commits-wrote e w-is b-is l = record {
-    leaves = λ x out mid sb v z p h.
-        renamed out w b s sb (finish-wrote x p used (storeIn w b) (commit ws (storeIn w b)) (sessionFrom s sb) clear e)
+-- WHAT WAS DECIDED, APPLIED
+module _ (ws : List Write) {d : Prepared} (used : ℕ) (w b : List ℕ) {s : List ℕ} where
+  pub applies-number : {r : Answer} → (d .number ≡ 0 → ⊥) → r ≡ refusal (d .number) → Valid w b → Applies ws d used w b s w b s r
+  unfolding replyBuffer
+  applies-number nz r-is v = record {
+    leaves = λ f out out′ sb h n m ws-is z q.
+        let nz′ : f .number ≡ 0 → ⊥ = λ e. nz (n ∙ e) in
+        let k : length out - 0 ≡ length out = omega arith in
+        renamed out w b s sb (applied-number used f (storeIn w b) (sessionFrom s sb) nz′)
+        (rw (r-is, n) (all-left (f .number) out w b s sb v h (z ∙ ap (λ (x : Bytes). x ++ replicate (length out - length x) 0) (q nz′) ∙ ap (λ (i : ℕ). replicate i 0) k)));
+  }
+
+  pub applies-writes : {w′ b′ s′ : List ℕ} → d .number ≡ 0 → w′ ≡ leaveWords (commit ws (storeIn w b)) w → b′ ≡ leaveBytes (commit ws (storeIn w b)) b → Left cleared s s′
+      → Applies ws d used w b s w′ b′ s′ (record { number = 0; used = used; reply = d .reply })
+  applies-writes zero w-is b-is l = record {
+    leaves = λ f out out′ sb h n m ws-is z q.
+        renamed out w b s sb (applied-zero used f (storeIn w b) (sessionFrom s sb) (sym n ∙ zero))
         (record {
-          says = says-wrote x p used (storeIn w b) (commit ws (storeIn w b)) (sessionFrom s sb) clear e z;
-          store = record { words = w-is; bytes = b-is };
+          says = record { answer = ap (λ (k : ℕ). record { number = 0; used = used; reply = k }) m; reply = z };
+          store = record { words = w-is ∙ ap (λ (x : List Write). leaveWords (commit x (storeIn w b)) w) ws-is; bytes = b-is ∙ ap (λ (x : List Write). leaveBytes (commit x (storeIn w b)) b) ws-is };
           session = l .is sb h;
           session-bytes = sym (bytes-cleared h);
         });
   }
 
-  pub commits-full : {r : Answer} → put ≡ Full → r ≡ refusal 3 → Commits ws put used w b s w b s r
-  commits-full e r-is = record {
-    leaves = λ x out mid sb v z p h.
-        renamed out w b s sb (finish-full x p used (storeIn w b) (commit ws (storeIn w b)) (sessionFrom s sb) clear e)
-        (rw r-is (all-left 3 out w b s sb v h (full-cleared x p used (storeIn w b) (commit ws (storeIn w b)) (sessionFrom s sb) clear e)));
-  }
-
--- ROOM AND SEQUENCES, by the words of the own writes
+-- THE OWN WRITES as a list
 pub own-listed : (own : List ℕ) (d : Bytes) (rows : ℕ) → Own own d rows → Ascending (listFrom (writeAt own d) 0 rows)
 unfolding ownWrites
 own-listed own d rows o = o .rising
@@ -106,60 +104,13 @@ pub own-bytes : (own : List ℕ) (d : Bytes) (rows : ℕ) (w b : List ℕ) {b′
 unfolding ownWrites
 own-bytes own d rows w b e = e
 
-module _ (x : Reply) (st : Store) (s : Session) (ws : List Write) where
-  no-room-is : hasRoom st ws ≡ false → concluded x st s ws ≡ returns 6 st s
-  unfolding concluded
-  no-room-is e = rw e
+-- without writes the store stays
+no-commit : (own : List ℕ) (d : Bytes) (rows : ℕ) (w b : List ℕ) → rows ≤ 0 → commit (ownWrites own d rows) (storeIn w b) ≡ storeIn w b
+unfolding commit
+no-commit own d rows w b n = let z : rows ≡ 0 = omega arith in ap (λ (x : List Write). commit x (storeIn w b)) (ap (ownWrites own d) z ∙ none-writes own d)
 
-  no-sequences-is : hasRoom st ws ≡ true → hasSequences st ws ≡ false → concluded x st s ws ≡ returns 7 st s
-  unfolding concluded
-  no-sequences-is e f = rw (e, f)
+pub none-written : (own : List ℕ) (d : Bytes) (rows : ℕ) (w b : List ℕ) → Valid w b → rows ≤ 0 → w ≡ leaveWords (commit (ownWrites own d rows) (storeIn w b)) w
+none-written own d rows w b v n = sym (ap (λ (x : Store). leaveWords x w) (no-commit own d rows w b n) ∙ leave-words-same w b v)
 
-  commits-is : hasRoom st ws ≡ true → hasSequences st ws ≡ true → concluded x st s ws ≡ says x (commit ws st) clear
-  unfolding concluded
-  commits-is e f = rw (e, f)
-
-module _ (own : List ℕ) (d : Bytes) (rows : ℕ) (o : Own own d rows) (w b : List ℕ) (v : Valid w b) {t : Bool} (t-is : t ≡ roomIn w rows (sizesFrom own 0 rows)) where
-  room-agrees : hasRoom (storeIn w b) (ownWrites own d rows) ≡ t
-  unfolding hasRoom
-  room-agrees =
-      (λ z. leb (length (storeIn w b .versions) + own-count own d rows z) (storeIn w b .mostVersions) && leb (versionsSize (storeIn w b .versions) + sym (own-sizes o) z) (storeIn w b .mostBytes))
-      ∙ sym (room-is w b rows (sizesFrom own 0 rows) v) ∙ sym t-is
-
-  module _ {q : Bool} {last : ℕ} (yes-room : not t ≡ false) (last-is : last ≡ getD w 2 0) (q-is : q ≡ ltb (last + rows) (2 ^ 64)) where
-    sequences-agree : hasSequences (storeIn w b) (ownWrites own d rows) ≡ q
-    unfolding hasSequences storeIn
-    sequences-agree = (λ z. ltb (sym last-is z + own-count own d rows z) (2 ^ 64)) ∙ sym q-is
-
-    pub room-for : not q ≡ false → RoomFor w rows (sizesFrom own 0 rows)
-    room-for e = room-granted w rows (sizesFrom own 0 rows) t-is (not-false t yes-room) (q-is ∙ ap (λ (k : ℕ). ltb (k + rows) (2 ^ 64)) last-is) (not-false q e)
-
-  module _ (put : Put) (used : ℕ) (s : List ℕ) (mid : Bytes) where
-    refused : (n : ℕ) {out′ : Bytes} {r : Answer} → ((x : Reply) (sb : Bytes) → concluded x (storeIn w b) (sessionFrom s sb) (ownWrites own d rows) ≡ returns n (storeIn w b) (sessionFrom s sb))
-        → r ≡ refusal n → out′ ≡ replicate (length mid) 0 → Concludes (ownWrites own d rows) put used w b s mid w b s out′ r
-    unfolding finish finishBy
-    refused n {out′} is r-is z-is = record {
-      leaves = λ x out sb z p h.
-          renamed out w b s sb (ap (λ (e : Done). finish (length out) used e (storeIn w b) (sessionFrom s sb)) (is x sb))
-          (rw r-is (all-left n out w b s sb v h (z-is ∙ ap (λ (k : ℕ). replicate k 0) (length-kept p))));
-    }
-
-    pub no-room : {out′ : Bytes} {r : Answer} → not t ≡ true → r ≡ refusal 6 → out′ ≡ replicate (length mid) 0 → Concludes (ownWrites own d rows) put used w b s mid w b s out′ r
-    no-room e r-is z = refused 6 (λ x sb. no-room-is x (storeIn w b) (sessionFrom s sb) (ownWrites own d rows) (room-agrees ∙ not-true t e)) r-is z
-
-    module _ {q : Bool} {last : ℕ} (yes-room : not t ≡ false) (last-is : last ≡ getD w 2 0) (q-is : q ≡ ltb (last + rows) (2 ^ 64)) where
-      pub no-sequences : {out′ : Bytes} {r : Answer} → not q ≡ true → r ≡ refusal 7 → out′ ≡ replicate (length mid) 0 → Concludes (ownWrites own d rows) put used w b s mid w b s out′ r
-      no-sequences e r-is z =
-          refused 7
-          (λ x sb. no-sequences-is x (storeIn w b) (sessionFrom s sb) (ownWrites own d rows) (room-agrees ∙ not-false t yes-room) (sequences-agree yes-room last-is q-is ∙ not-true q e))
-          r-is z
-
-      pub concludes-commits : {w′ b′ s′ : List ℕ} {r : Answer} → not q ≡ false → Commits (ownWrites own d rows) put used w b s w′ b′ s′ r
-          → Concludes (ownWrites own d rows) put used w b s mid w′ b′ s′ mid r
-      concludes-commits e k = record {
-        leaves = λ x out sb z p h.
-            renamed out w b s sb
-            (ap (λ (f : Done). finish (length out) used f (storeIn w b) (sessionFrom s sb))
-            (commits-is x (storeIn w b) (sessionFrom s sb) (ownWrites own d rows) (room-agrees ∙ not-false t yes-room) (sequences-agree yes-room last-is q-is ∙ not-false q e)))
-            (k .leaves x out mid sb v z p h);
-      }
+pub none-bytes : (own : List ℕ) (d : Bytes) (rows : ℕ) (w b : List ℕ) → Valid w b → rows ≤ 0 → b ≡ leaveBytes (commit (ownWrites own d rows) (storeIn w b)) b
+none-bytes own d rows w b v n = sym (ap (λ (x : Store). leaveBytes x b) (no-commit own d rows w b n) ∙ leave-bytes-same w b v)

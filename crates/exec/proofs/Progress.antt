@@ -1,21 +1,15 @@
--- The progress at the end of the queue is what `runQueue` gives, and with the verdict it is what `execute` does.
+-- The progress at the end of the queue is what `runQueue` gives.
 use mathlib.Core.Path.{_≡_, refl, sym, ap, _∙_}
-use mathlib.Core.Bool.{Bool, true, false, cond}
 use mathlib.Core.List.{List, [], _∷_, _++_, map, append-assoc, append-nil}
 use Prim.Native.Nat.{ℕ, suc}
 use lib.ListN.{length}
-use Rattle.resp.specs.Reply.{array, items, head, countItems, encode, encodeAll, NilArray}
+use Rattle.resp.specs.Reply.{array, items, head, countItems, encode, encodeAll}
 use Rattle.memtable.specs.Table.{Reader, Write, over, lastWrites}
 use Rattle.memtable.specs.Versions.{Version, Store, readAt}
 use Rattle.memtable.proofs.TableLaws.{Ascending, last-more, ascending-last, over-last}
-use Rattle.batch.specs.declared.Verdict.{Verdict}
-use Rattle.batch.specs.declared.Verdict.the-variants.{Accepted, Conflict, NoRoom, NoSequence}
-use Rattle.batch.specs.Group.{plain, conflicts, hasRoom, hasSequences, judge, verdictAlone}
 use Rattle.server.specs.Names.{Args}
 use Rattle.server.specs.Command.{Command, commandOf, run, Ran, runQueue}
-use Rattle.server.specs.Session.{Session, clear, says, anyMoved, verdictExec, execute}
-use Rattle.server.proofs.SessionLaws.{ranBy, writesBy, ends, execute-ends}
-use Rattle.conclude.specs.Leaving.{concluded}
+use Rattle.server.proofs.SessionLaws.{ranBy, writesBy}
 use Rattle.exec.specs.Progress.{Progress, begun, advance, advanceAll}
 
 -- what the rest of a queue adds to a progress
@@ -46,36 +40,13 @@ module _ (q : List Args) (st : Store) where
   unfolding ended ranBy over
   ended-is = all-advanced (st .last) (st .versions) (map commandOf q) begun tt
 
-  ended-writes : ended q st .writes ≡ writesBy q st
+  pub ended-writes : ended q st .writes ≡ writesBy q st
   unfolding after writesBy
   ended-writes = ap (λ (p : Progress). p .writes) ended-is
 
   ended-replies : ended q st .replies ≡ encodeAll (items (ranBy q st .replies))
   unfolding after
   ended-replies = ap (λ (p : Progress). p .replies) ended-is
-
-  module _ (s : Session) (f : s .failed ≡ false) where
-    -- conflict comes before 6 and 7
-    pub execute-conflict : anyMoved (st .versions) (s .watch) ≡ true → execute q st s ≡ says NilArray st clear
-    unfolding verdictExec ends
-    execute-conflict m = execute-ends q st s f ∙ ap (λ (b : Bool). ends (cond b Conflict (verdictAlone st (plain (writesBy q st)))) (ranBy q st) (writesBy q st) st s) m
-
-    verdict-is : anyMoved (st .versions) (s .watch) ≡ false
-        → verdictExec (writesBy q st) st (s .watch) ≡ cond (hasRoom st (writesBy q st)) (cond (hasSequences st (writesBy q st)) Accepted NoSequence) NoRoom
-    unfolding verdictExec verdictAlone judge conflicts
-    verdict-is m = rw m
-
-    pub execute-concluded : anyMoved (st .versions) (s .watch) ≡ false → execute q st s ≡ concluded (array (ranBy q st .replies)) st s (ended q st .writes)
-    unfolding concluded ends
-    execute-concluded m =
-        execute-ends q st s f ∙ ap (λ (v : Verdict). ends v (ranBy q st) (writesBy q st) st s) (verdict-is m)
-        ∙ go (hasRoom st (writesBy q st)) (hasSequences st (writesBy q st)) ∙ ap (concluded (array (ranBy q st .replies)) st s) (sym ended-writes)
-      where
-        go : (r n : Bool) → ends (cond r (cond n Accepted NoSequence) NoRoom) (ranBy q st) (writesBy q st) st s
-            ≡ cond r (cond n (ends Accepted (ranBy q st) (writesBy q st) st s) (ends NoSequence (ranBy q st) (writesBy q st) st s)) (ends NoRoom (ranBy q st) (writesBy q st) st s)
-        go true true = refl
-        go true false = refl
-        go false n = refl
 
   ran-count : (r : Reader) (cs : List Command) → countItems (items (runQueue r cs .replies)) ≡ length cs
   unfolding runQueue items countItems

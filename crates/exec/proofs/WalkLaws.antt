@@ -82,7 +82,7 @@ pub record Walking (s p : List ℕ) (d₀ : Bytes) (w : List ℕ) (b : Bytes) (s
   pub same : length own ≡ length own₀
   pub same-data : length d ≡ length data₀
 
-pub walking-none : (s p : List ℕ) (w : List ℕ) (b : Bytes) (seq used : ℕ) (put₀ : Put) (own d out : Bytes) {n : ℕ} → n ≡ getD s 3 0 → Queued s p (take used d) → used + 1280 ≤ length d
+pub walking-none : (s p : List ℕ) (w : List ℕ) (b : Bytes) (seq used : ℕ) (put₀ : Put) (own d out : Bytes) {n : ℕ} → n ≡ getD s 3 0 → Queued s p (take used d) → used + 20 * getD s 3 0 ≤ length d
     → Walking s p (take used d) w b seq put₀ own d out own d out (record { rows = 0; used = used; put = put₀ }) 0 0
 unfolding commandsIn requestsIn
 walking-none s p w b seq used put₀ own d out n-is q h =
@@ -96,7 +96,7 @@ walking-none s p w b seq used put₀ own d out n-is q h =
       kept = own-none own (take used d);
       front = ap (λ (m : ℕ). take m d) l;
       used-more = omega arith;
-      used-room = omega (arith, q .few);
+      used-room = omega arith;
       few-rows = omega arith;
       replies = [];
       is = λ z. advanceAll seq (versionsIn w b) (map commandOf (splitBy (e z) (argumentsAt 0 (total (e z)) p (take used d)))) (record { writes = sym (none-writes own (take used d)) z; replies = [] });
@@ -182,8 +182,8 @@ module _ {s p : List ℕ} {d₀ : Bytes} {w : List ℕ} {b : Bytes} {seq : ℕ} 
           );
     }
 
-    pub rows-room : 2048 ≤ length own₀ → 4 * (a .rows + (count - 1)) ≤ length own
-    rows-room o = omega (arith, g .few-rows, last-argument, q .few-arguments, count-least, g .same)
+    pub rows-room : 4 * total (part 68 (getD s 3 0) s) ≤ length own₀ → 4 * (a .rows + (count - 1)) ≤ length own
+    rows-room o = omega (arith, g .few-rows, last-argument, count-least, g .same)
 
     pub text-room : a .used + 20 ≤ length d
     text-room = omega (arith, g .used-room)

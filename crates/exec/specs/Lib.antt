@@ -1,3 +1,4 @@
 -- The definitions of this crate.
 pub mod Execution
+pub mod Previewing
 pub mod Progress

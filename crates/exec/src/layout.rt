@@ -2,32 +2,107 @@
 use store::merge;
 ghost use mathlib.Core.Path.{_≡_};
 ghost use mathlib.Core.Bool.{true};
-ghost use Prim.Native.Nat.{_≤_};
+ghost use Prim.Native.Nat.{_+_, _*_, _≤_};
 ghost use lib.ListN.{length, getD};
 ghost use Rattle.key.specs.Bytes.{part};
 ghost use Rattle.server.specs.Sessions.{queueIn, allPositive, allQueueable};
 ghost use Rattle.server.specs.Held.{Held};
-ghost use Rattle.exec.specs.Execution.{LaidOut};
+ghost use Rattle.server.specs.Places.{QueueSizes};
+ghost use Rattle.exec.specs.Execution.{SizesOf, small, LaidOut};
 
-// Writes the places of the queued arguments and the session's bytes up to their end, and answers where that is.
+// Where the words of a session hold the number of queued commands, the counts of their arguments, and the lengths of these.
+const COMMANDS: usize = 3;
+
+const COUNTS: usize = 68;
+
+const LENGTHS: usize = 132;
+
+// Where the bytes of a session hold the queued arguments.
+const ARGUMENTS: usize = 2048;
+
+// The limits of a queue.
+const MOST_COMMANDS: usize = 64;
+
+const MOST_ARGUMENTS: usize = 512;
+
+const MOST_BYTES: usize = 8192;
+
+// The limits of a small queue: sixteen SET with 64 bytes each, whose working memory is a tenth of the largest to clear.
+const SMALL_COMMANDS: usize = 16;
+
+const SMALL_ARGUMENTS: usize = 48;
+
+const SMALL_BYTES: usize = 1024;
+
+// The longest text of a counter.
+const COUNTER_TEXT: usize = 20;
+
+// The lengths of the working memory for a small queue and for every queue: two words for each place, four for each write.
+pub const SMALL_PLACES: usize = 2 * SMALL_ARGUMENTS;
+
+pub const SMALL_WRITES: usize = 4 * SMALL_ARGUMENTS;
+
+pub const SMALL_DATA: usize = SMALL_BYTES + COUNTER_TEXT * SMALL_COMMANDS;
+
+pub const MOST_PLACES: usize = 2 * MOST_ARGUMENTS;
+
+pub const MOST_WRITES: usize = 4 * MOST_ARGUMENTS;
+
+pub const MOST_DATA: usize = MOST_BYTES + COUNTER_TEXT * MOST_COMMANDS;
+
+// The sizes of a queue: its commands, their arguments, and the bytes of these.
+pub struct Sizes {
+    pub commands: usize,
+    pub arguments: usize,
+    pub bytes: usize,
+}
+
+// The sizes of a session's queue.
+pub fn sizes_of(session_words: &[u64]) -> Sizes
+    requires { ⌜ QueueSizes (now «session_words») ⌝ }
+    ensures { λ r. ⌜ SizesOf (now («session_words» .entry)) r ⌝ }
+{
+    let commands = sessions::word(session_words, COMMANDS);
+    let arguments = sessions::sum_within(session_words, COUNTS, commands, MOST_ARGUMENTS);
+    let bytes = sessions::sum_within(session_words, LENGTHS, arguments, MOST_BYTES);
+    Sizes {
+        commands: commands,
+        arguments: arguments,
+        bytes: bytes,
+    }
+}
+
+// Does the small working memory have room for a queue of these sizes?
+pub fn is_small(sizes: Sizes) -> bool
+    ensures { λ r. ⌜ r ≡ small sizes ⌝ }
+{
+    if SMALL_COMMANDS < sizes.commands {
+        return false;
+    }
+    if SMALL_ARGUMENTS < sizes.arguments {
+        return false;
+    }
+    sizes.bytes <= SMALL_BYTES
+}
+
+// Writes the places of the queued arguments, and their bytes.
 pub fn lay_out(
     session_words: &[u64],
     session_bytes: &[u8],
+    sizes: Sizes,
     places: &mut [u64],
     data: &mut [u8],
-) -> usize
+)
     requires { ⌜ Held (now «session_words») (now «session_bytes») ⌝ }
     requires { ⌜ allPositive (part 68 (getD (now «session_words») 3 0) (now «session_words»)) ≡ true ⌝ }
     requires { ⌜ allQueueable (queueIn (now «session_words») (now «session_bytes»)) ≡ true ⌝ }
-    requires { ⌜ 1024 ≤ length (now places) ⌝ }
-    requires { ⌜ 11520 ≤ length (now «data») ⌝ }
-    ensures { λ r. ⌜ LaidOut (now («session_words» .entry)) (now («session_bytes» .entry)) (now («data» .entry)) (now (places .exit)) (now («data» .exit)) r ⌝ }
+    requires { ⌜ SizesOf (now «session_words») sizes ⌝ }
+    requires { ⌜ 2 * sizes .arguments ≤ length (now places) ⌝ }
+    requires { ⌜ sizes .bytes + 20 * sizes .commands ≤ length (now «data») ⌝ }
+    ensures { λ _. ⌜ LaidOut (now («session_words» .entry)) (now («session_bytes» .entry)) (now («data» .entry)) (now (places .exit)) (now («data» .exit)) (sizes .bytes) ⌝ }
 {
-    let queued = sessions::word(session_words, 3);
-    let count = sessions::sum_within(session_words, 68, queued, 512);
-    let sum = sessions::sum_within(session_words, 132, count, 8192);
-    let used = 2048 + sum;
-    queue::expand(session_words, places, count);
-    merge::put(data, 0, &session_bytes[..used]);
-    used
+    let start = ARGUMENTS;
+    let end = start + sizes.bytes;
+    queue::expand(session_words, places, sizes.arguments);
+    merge::put(data, 0, &session_bytes[start..end]);
 }

@@ -11,6 +11,7 @@ ghost use mathlib.Core.Path.{_≡_};
 ghost use mathlib.Core.Bool.{true};
 ghost use Prim.Native.Nat.{_+_, _-_, _*_, _≤_};
 ghost use lib.ListN.{length, getD, take};
+ghost use Rattle.key.specs.Bytes.{part, total};
 ghost use Rattle.memtable.specs.Rows.{Valid, versionsIn};
 ghost use Rattle.server.specs.Names.{requestQueueable};
 ghost use Rattle.server.specs.Command.{commandOf, run};
@@ -106,8 +107,8 @@ pub fn run_queue(
 ) -> Walked
     requires { ⌜ Queued (now «session_words») (now places) (take used (now «data»)) ⌝ }
     requires { ⌜ Valid (now words) (now bytes) ⌝ }
-    requires { ⌜ 2048 ≤ length (now own) ⌝ }
-    requires { ⌜ used + 1280 ≤ length (now «data») ⌝ }
+    requires { ⌜ 4 * total (part 68 (getD (now «session_words») 3 0) (now «session_words»)) ≤ length (now own) ⌝ }
+    requires { ⌜ used + 20 * getD (now «session_words») 3 0 ≤ length (now «data») ⌝ }
     ensures { λ r. ⌜ QueueRan (advanceAll seq (versionsIn (now (words .entry)) (now (bytes .entry))) (commandsIn (now («session_words» .entry)) (now (places .entry)) (take used (now («data» .entry)))) begun) (getD (now («session_words» .entry)) 3 0) (now (own .entry)) (now («data» .entry)) (now (out .entry)) (now (own .exit)) (now («data» .exit)) (now (out .exit)) r ⌝ }
 {
     let queued = sessions::word(session_words, 3);

@@ -1,21 +1,26 @@
-// EXEC of one session.
+// EXEC of one session: what is decided is applied.
+use crate::Early;
+use crate::decide;
 use crate::layout;
-use crate::queued;
-use encode::reply;
+use crate::layout::MOST_DATA;
+use crate::layout::MOST_PLACES;
+use crate::layout::MOST_WRITES;
+use crate::layout::SMALL_DATA;
+use crate::layout::SMALL_PLACES;
+use crate::layout::SMALL_WRITES;
+use crate::layout::Sizes;
 use server::Answer;
-use server::Fixed;
 ghost use mathlib.Core.Path.{_≡_};
 ghost use mathlib.Core.Bool.{true};
-ghost use Prim.Native.Nat.{_≤_};
 ghost use lib.ListN.{length, replicate};
 ghost use Rattle.memtable.specs.Layout.{lastWord};
 ghost use Rattle.memtable.specs.Rows.{Valid};
 ghost use Rattle.server.specs.Lent.{OneSession};
 ghost use Rattle.server.specs.Sessions.{sessionOk};
 ghost use Rattle.conclude.specs.Leaving.{Leaves};
-ghost use Rattle.exec.specs.Execution.{execServed, ExecReady};
+ghost use Rattle.exec.specs.Execution.{ExecReady, SizesOf, WorkingMemory, execServed, small};
 
-// Runs the queue in lent working memory, and answers by its verdict.
+// Runs the queue in lent working memory, and applies what is decided.
 fn exec_in(
     session_words: &mut [u64],
     session_bytes: &[u8],
@@ -23,45 +28,103 @@ fn exec_in(
     bytes: &mut [u8],
     out: &mut [u8],
     used: usize,
+    sizes: Sizes,
     places: &mut [u64],
     own: &mut [u64],
     data: &mut [u8],
 ) -> Answer
     requires { ⌜ ExecReady (now «session_words») (now «session_bytes») (now words) (now bytes) (now out) ⌝ }
-    requires { ⌜ 1024 ≤ length (now places) ⌝ }
-    requires { ⌜ 2048 ≤ length (now own) ⌝ }
-    requires { ⌜ 11520 ≤ length (now «data») ⌝ }
+    requires { ⌜ SizesOf (now «session_words») sizes ⌝ }
+    requires { ⌜ WorkingMemory sizes (now places) (now own) (now «data») ⌝ }
     ensures { λ r. ⌜ Leaves (execServed (length (now (out .entry))) used (now («session_words» .entry)) (now («session_bytes» .entry)) (now (words .entry)) (now (bytes .entry))) (now (out .entry)) (now (words .entry)) (now (bytes .entry)) (now («session_words» .entry)) (now («session_bytes» .entry)) r (now (out .exit)) (now (words .exit)) (now (bytes .exit)) (now («session_words» .exit)) ⌝ }
 {
-    let seq = words[2];
-    let in_use = layout::lay_out(session_words, session_bytes, places, data);
-    let at = queued::run_queue(
+    let prepared = decide::decide_queue(
         session_words,
+        session_bytes,
+        words,
+        bytes,
+        out,
+        sizes,
         places,
         own,
         data,
-        in_use,
-        words,
-        bytes,
-        seq,
-        out,
     );
-    let end = at.used;
-    let put = at.put;
-    conclude::conclude(
+    let end = prepared.end;
+    conclude::apply(
         session_words,
         own,
-        at.rows,
         &data[..end],
         words,
         bytes,
-        out,
-        put,
+        prepared,
         used,
     )
 }
 
-// The same, with working memory of its own.
+// The same, with working memory of its own for a small queue.
+fn exec_small(
+    session_words: &mut [u64],
+    session_bytes: &[u8],
+    words: &mut [u64],
+    bytes: &mut [u8],
+    out: &mut [u8],
+    used: usize,
+    sizes: Sizes,
+) -> Answer
+    requires { ⌜ ExecReady (now «session_words») (now «session_bytes») (now words) (now bytes) (now out) ⌝ }
+    requires { ⌜ SizesOf (now «session_words») sizes ⌝ }
+    requires { ⌜ small sizes ≡ true ⌝ }
+    ensures { λ r. ⌜ Leaves (execServed (length (now (out .entry))) used (now («session_words» .entry)) (now («session_bytes» .entry)) (now (words .entry)) (now (bytes .entry))) (now (out .entry)) (now (words .entry)) (now (bytes .entry)) (now («session_words» .entry)) (now («session_bytes» .entry)) r (now (out .exit)) (now (words .exit)) (now (bytes .exit)) (now («session_words» .exit)) ⌝ }
+{
+    let mut places = [0u64; SMALL_PLACES];
+    let mut own = [0u64; SMALL_WRITES];
+    let mut data = [0u8; SMALL_DATA];
+    exec_in(
+        session_words,
+        session_bytes,
+        words,
+        bytes,
+        out,
+        used,
+        sizes,
+        &mut places,
+        &mut own,
+        &mut data,
+    )
+}
+
+// The same for every queue.
+fn exec_large(
+    session_words: &mut [u64],
+    session_bytes: &[u8],
+    words: &mut [u64],
+    bytes: &mut [u8],
+    out: &mut [u8],
+    used: usize,
+    sizes: Sizes,
+) -> Answer
+    requires { ⌜ ExecReady (now «session_words») (now «session_bytes») (now words) (now bytes) (now out) ⌝ }
+    requires { ⌜ SizesOf (now «session_words») sizes ⌝ }
+    ensures { λ r. ⌜ Leaves (execServed (length (now (out .entry))) used (now («session_words» .entry)) (now («session_bytes» .entry)) (now (words .entry)) (now (bytes .entry))) (now (out .entry)) (now (words .entry)) (now (bytes .entry)) (now («session_words» .entry)) (now («session_bytes» .entry)) r (now (out .exit)) (now (words .exit)) (now (bytes .exit)) (now («session_words» .exit)) ⌝ }
+{
+    let mut places = [0u64; MOST_PLACES];
+    let mut own = [0u64; MOST_WRITES];
+    let mut data = [0u8; MOST_DATA];
+    exec_in(
+        session_words,
+        session_bytes,
+        words,
+        bytes,
+        out,
+        used,
+        sizes,
+        &mut places,
+        &mut own,
+        &mut data,
+    )
+}
+
+// The same, with working memory by the sizes of the queue.
 fn exec_queue(
     session_words: &mut [u64],
     session_bytes: &[u8],
@@ -73,23 +136,14 @@ fn exec_queue(
     requires { ⌜ ExecReady (now «session_words») (now «session_bytes») (now words) (now bytes) (now out) ⌝ }
     ensures { λ r. ⌜ Leaves (execServed (length (now (out .entry))) used (now («session_words» .entry)) (now («session_bytes» .entry)) (now (words .entry)) (now (bytes .entry))) (now (out .entry)) (now (words .entry)) (now (bytes .entry)) (now («session_words» .entry)) (now («session_bytes» .entry)) r (now (out .exit)) (now (words .exit)) (now (bytes .exit)) (now («session_words» .exit)) ⌝ }
 {
-    let mut places = [0u64; 1024];
-    let mut own = [0u64; 2048];
-    let mut data = [0u8; 11520];
-    exec_in(
-        session_words,
-        session_bytes,
-        words,
-        bytes,
-        out,
-        used,
-        &mut places,
-        &mut own,
-        &mut data,
-    )
+    let sizes = layout::sizes_of(session_words);
+    if layout::is_small(sizes) {
+        return exec_small(session_words, session_bytes, words, bytes, out, used, sizes);
+    }
+    exec_large(session_words, session_bytes, words, bytes, out, used, sizes)
 }
 
-// EXEC of a valid session, into a cleared reply buffer: the mark comes first, then the watched keys, then the queue.
+// EXEC of a valid session, into a cleared reply buffer.
 pub fn exec(
     session_words: &mut [u64],
     session_bytes: &[u8],
@@ -104,13 +158,20 @@ pub fn exec(
     requires { ⌜ now out ≡ replicate (length (now out)) 0 ⌝ }
     ensures { λ r. ⌜ Leaves (execServed (length (now (out .entry))) used (now («session_words» .entry)) (now («session_bytes» .entry)) (now (words .entry)) (now (bytes .entry))) (now (out .entry)) (now (words .entry)) (now (bytes .entry)) (now («session_words» .entry)) (now («session_bytes» .entry)) r (now (out .exit)) (now (words .exit)) (now (bytes .exit)) (now («session_words» .exit)) ⌝ }
 {
-    if changes::failed(session_words) {
-        let put = errors::put_fixed(out, Fixed::ExecAbort);
-        return conclude::close(session_words, put, used);
-    }
-    if watch::watched_moved(session_words, session_bytes, words, bytes) {
-        let put = reply::put_nil_array(out);
-        return conclude::close(session_words, put, used);
-    }
-    exec_queue(session_words, session_bytes, words, bytes, out, used)
+    let early = decide::before_queue(session_words, session_bytes, words, bytes, out);
+    let Early::Known(prepared) = early else {
+        return exec_queue(session_words, session_bytes, words, bytes, out, used);
+    };
+    // nothing is written, so what stands for the own writes and their data is not read
+    let none = [0u64; 1];
+    let end = prepared.end;
+    conclude::apply(
+        session_words,
+        &none,
+        &session_bytes[..end],
+        words,
+        bytes,
+        prepared,
+        used,
+    )
 }

@@ -92,12 +92,12 @@ pub fn append(words: &mut [u64], bytes: &mut [u8], input: &[u8], places: &[u64],
     words[3] = (queued + 1) as u64;
 }
 
-// Writes the places of the first `count` queued arguments in the session's bytes into a table.
+// Writes the places of the first `count` queued arguments into a table, counted from the first byte of the queue.
 pub fn expand(words: &[u64], places: &mut [u64], count: usize)
     requires { ⌜ Expandable (now words) (now places) count ⌝ }
-    ensures { λ _. ⌜ now (places .exit) ≡ putAt 0 (placesOf 2048 (part 132 count (now (words .entry)))) (now (places .entry)) ⌝ }
+    ensures { λ _. ⌜ now (places .exit) ≡ putAt 0 (placesOf 0 (part 132 count (now (words .entry)))) (now (places .entry)) ⌝ }
 {
-    let mut start = 2048;
+    let mut start = 0;
     let mut i = 0;
     while i < count {
         let len = sessions::word(words, 132 + i);

@@ -1,15 +1,15 @@
--- Worked calls, computed: what posting makes of seven of them, and answers that no refusal, fixed reply or invented count gives.
+-- Worked calls, computed: what posting makes of eight of them, and answers that no refusal, fixed reply or invented count gives.
 use Prim.Native.Nat.{ℕ, _-_}
 use Prim.Native.String.{String}
 use mathlib.Core.List.{List, [], _∷_, _++_, map}
-use mathlib.Core.Bool.{Bool, false, not}
+use mathlib.Core.Bool.{Bool, false, not, _&&_}
 use lib.Dec.{T, eqb}
 use lib.IntN.{pos, negsuc}
 use lib.ListN.{length, getD, replicate}
 use Rattle.key.specs.Bytes.{Bytes, bytes, sameBytes, concat}
 use Rattle.number.specs.Number.{intArg}
 use Rattle.server.specs.Sessions.{sessionOk}
-use Rattle.calls.specs.Calls.{Lent, open-call, request-call, Call, request, grouped}
+use Rattle.calls.specs.Calls.{Lent, open-call, request-call, preview-call, verdictIn, Call, request, grouped, preview}
 use Rattle.calls.specs.Posting.{Item, alone, listed, exec, member}
 use Rattle.calls.specs.Demand3.{itemsOf}
 use Rattle.calls.specs.Opens.{calls-opens}
@@ -36,6 +36,8 @@ worked =
     -- in between: a command of another session, and a session that is none (1)
     ∷ request 1 (bytes "SET k 5\r\n") 8 256
     ∷ request 16 (bytes "SET k 6\r\n") 8 256
+    -- and a preview
+    ∷ preview 0 256
     ∷ request 0 (bytes "EXEC\r\n") 8 256
     ∷ group-of-g
     ∷ []
@@ -148,6 +150,40 @@ refusing =
 refusing-holds : T (every refusing)
 unfolding calls-opens refusing every after
 refusing-holds = tt
+
+-- A LOOK BEFORE EXEC (document 02, R-6). Number, verdict, reply and last sequence of a preview of session 0, with so many reply bytes
+abbrev previewIs : Lent → ℕ → ℕ → ℕ → String → ℕ → Bool
+previewIs l room number verdict text last =
+    let o = preview-call 0 room l .outcome in
+    eqb (o .number) number && eqb (verdictIn o) verdict && sameBytes (o .reply) (bytes text) && eqb (o .last) last
+
+-- a store whose sequences are used up
+abbrev spentSequences : Lent
+spentSequences =
+    let o = open-call 18446744073709551615 20 200 (replicate 85 0) (replicate 200 0) in
+    record { words = o .words; bytes = o .bytes; sessionWords = opened .sessionWords; sessionBytes = opened .sessionBytes }
+
+unfoldable looking : List Bool
+looking =
+    -- outside MULTI no verdict is reached, and the last sequence is told
+    previewIs (after (line 0 "SET a 1" ∷ []) opened) 256 0 255 "-ERR EXEC without MULTI\r\n" 1
+    -- nor of a failed session
+    ∷ previewIs (after (line 0 "MULTI" ∷ line 0 "FOO" ∷ []) opened) 256 0 255 "-EXECABORT Transaction discarded because of previous errors.\r\n" 0
+    -- conflict: nothing would be written
+    ∷ previewIs (after (line 0 "WATCH a" ∷ line 0 "SET a 1" ∷ line 0 "MULTI" ∷ line 0 "SET b 1" ∷ []) opened) 256 0 1 "*-1\r\n" 1
+    -- accepted: one sequence for each key
+    ∷ previewIs (after (line 0 "MULTI" ∷ line 0 "SET a 1" ∷ line 0 "SET a 2" ∷ line 0 "SET b 1" ∷ []) opened) 256 0 0 "*3\r\n+OK\r\n+OK\r\n+OK\r\n" 2
+    -- the numbers 3, 6, 7 and 1 come with verdict 255 and last sequence 0
+    ∷ previewIs (after (line 0 "MULTI" ∷ []) opened) 3 3 255 "" 0
+    ∷ previewIs (after (line 0 "MULTI" ∷ []) opened) 4 0 0 "*0\r\n" 0
+    ∷ previewIs (spentAfter []) 256 6 255 "" 0
+    ∷ previewIs (after (line 0 "MULTI" ∷ line 0 "SET a 1" ∷ []) spentSequences) 256 7 255 "" 0
+    ∷ eqb (preview-call 16 256 opened .outcome .number) 1
+    ∷ []
+
+looking-holds : T (every looking)
+unfolding calls-opens looking every after
+looking-holds = tt
 
 -- A WRONG ARGUMENT COUNT (document 02, R-8). SET a 1 queued
 unfoldable begun : Lent

@@ -18,7 +18,7 @@ use Rattle.calls.proofs.CallLaws.{no-session, not-valid}
 
 -- THE CALL
 module _ (i : ℕ) (w : List ℕ) (b : Bytes) (sw : List ℕ) (sb : Bytes) {n : ℕ} (n-is : n ≡ requestNumber i (lentOf w b sw sb)) where
-  number-as : {t v : Bool} → ltb i 16 ≡ t → valid (lentOf w b sw sb) ≡ v → n ≡ cond t (cond v 0 9) 1
+  pub number-as : {t v : Bool} → ltb i 16 ≡ t → valid (lentOf w b sw sb) ≡ v → n ≡ cond t (cond v 0 9) 1
   unfolding requestNumber
   number-as p q = n-is ∙ (λ z. cond (p z) (cond (q z) 0 9) 1)
 

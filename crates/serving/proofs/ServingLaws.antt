@@ -39,12 +39,17 @@ use Rattle.conclude.specs.Leaving.{Closes}
 use Rattle.session.specs.Responds.{responded, Left, Ready}
 use Rattle.session.proofs.Among.{lentAt, backAt, lent-words, lent-bytes, lent-session, words-back, bytes-back}
 use Rattle.calls.specs.Serve.{protocolError, serveReading, serve}
-use Rattle.calls.specs.Calls.{Lent, lentOf, valid, leaveStore, leaveSession, leaveServed, Called, answerOf, RequestPromise, TablePromise}
+use Rattle.calls.specs.Calls.{Lent, lentOf, valid, sessionOf, leaveStore, leaveSession, leaveServed, Called, previewOf, answerOf, RequestPromise, TablePromise, PreviewPromise}
+use Rattle.decision.specs.declared.Preview.{Preview}
+use Rattle.decision.specs.Decided.{Decided, decideExec, previewDecided}
+use Rattle.decision.proofs.Executes.{exec-silent}
+use Rattle.exec.specs.Previewing.{sessionDecided, Previews}
+use Rattle.calls.proofs.PreviewLaws.{previewed-struct, previewed-reply}
 use Rattle.serving.specs.Serving.{FaultLeft, wholeServed, servedIn, TableHolds, ReadyAmong}
 use Rattle.serving.proofs.RespondLaws.{ready-held}
 use Rattle.calls.proofs.ServeLaws.{ServeKept, serve-kept}
 use Rattle.calls.proofs.LentLaws.{valid-parts, session-good, eqb-differs}
-use Rattle.calls.proofs.CallLaws.{served}
+use Rattle.calls.proofs.CallLaws.{served, preview-valid}
 
 -- A PROTOCOL ERROR
 pub fault-answered : (input : Bytes) (f : Fault) (s : List ℕ) (out : Bytes) {put : Put} {mid : Bytes} {s′ : List ℕ} {r : Answer}
@@ -317,3 +322,16 @@ module _ (i : ℕ) (w : List ℕ) (b : Bytes) (sw : List ℕ) (sb out : Bytes) (
     parts = λ _ _. k .front;
     unread = λ f. let z : true ≡ false = sym (and-both (ltb i 16) (valid (lentOf w b sw sb)) (lt-ltb i 16 (h .below)) (h .fit)) ∙ f in let y : _≡_ {A = ℕ} 0 1 = cc in absurd (omega arith);
   }
+
+  -- THE PROMISE of the preview call
+  pub session-previewed : {r : Preview} {out′ : Bytes} → Previews (lastWord w) (sessionDecided (length out) (lentAt 644 i sw) (lentAt 10240 i sb) w b) out r out′ → PreviewPromise i out (lentOf w b sw sb) r out′ (lentOf w b sw sb)
+  unfolding sessionDecided storeIn
+  session-previewed {r} {out′} l =
+      let told = preview-valid i (length out) (lentOf w b sw sb) (lt-ltb i 16 (h .below)) (h .fit) in
+      let d = decideExec (length out) (storeIn w b) (sessionOf i (lentOf w b sw sb)) in
+      let same : sessionDecided (length out) (lentAt 644 i sw) (lentAt 10240 i sb) w b ≡ d = ap (decideExec (length out) (storeIn w b)) (lent-session i sw sb) in
+      record {
+        preview = l .preview ∙ ap (previewDecided (lastWord w)) same ∙ sym (previewed-struct (lastWord w) d) ∙ sym (ap (λ (x : Called). previewOf (x .outcome)) told);
+        reply = l .reply ∙ ap (λ (x : Bytes). replyBuffer (length out) x) (ap (λ (x : Decided). x .reply) same ∙ sym (previewed-reply (lastWord w) d (exec-silent (length out) (storeIn w b) _)) ∙ sym (ap (λ (x : Called). x .outcome .reply) told));
+        lent = sym (ap (λ (x : Called). x .lent) told);
+      }

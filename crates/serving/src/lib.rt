@@ -1,6 +1,8 @@
-// One request on memory that is known to be valid: it is read, answered by its route, or refused.
+// One request on memory that is known to be valid: it is read, answered by its route, or refused. A preview of EXEC there.
 mod respond;
 
+use decision::Preview;
+use exec::preview;
 use parse::request;
 use resp::Fault;
 use resp::Read;
@@ -11,7 +13,7 @@ ghost use lib.ListN.{length};
 ghost use Rattle.resp.specs.Request.{readRequest};
 ghost use Rattle.server.specs.Places.{PartsIn};
 ghost use Rattle.session.specs.Responds.{Left, Ready};
-ghost use Rattle.calls.specs.Calls.{lentOf, RequestPromise, TablePromise};
+ghost use Rattle.calls.specs.Calls.{lentOf, PreviewPromise, RequestPromise, TablePromise};
 ghost use Rattle.serving.specs.Serving.{FaultLeft, wholeServed, servedIn, TableHolds, ReadyAmong};
 
 // The reply to a protocol error, which uses all bytes and clears the session.
@@ -117,6 +119,31 @@ pub fn serve_session(
         bytes,
         &mut swords[from..to],
         &mut sbytes[start..end],
+        out,
+    )
+}
+
+// A preview of EXEC of a session; the store and the sixteen sessions are valid, and `out` is all zero.
+pub fn preview_session(
+    session: usize,
+    words: &[u64],
+    bytes: &[u8],
+    swords: &[u64],
+    sbytes: &[u8],
+    out: &mut [u8],
+) -> Preview
+    requires { ⌜ ReadyAmong session (now words) (now bytes) (now swords) (now sbytes) (now out) ⌝ }
+    ensures { λ r. ⌜ PreviewPromise session (now (out .entry)) (lentOf (now (words .entry)) (now (bytes .entry)) (now (swords .entry)) (now (sbytes .entry))) r (now (out .exit)) (lentOf (now (words .entry)) (now (bytes .entry)) (now (swords .entry)) (now (sbytes .entry))) ⌝ }
+{
+    let word = session * 644;
+    let byte = session * 10240;
+    let words_end = word + 644;
+    let bytes_end = byte + 10240;
+    preview::preview(
+        &swords[word..words_end],
+        &sbytes[byte..bytes_end],
+        words,
+        bytes,
         out,
     )
 }

@@ -9,7 +9,7 @@ use native.Mathlib.Omega.{arith}
 use borrow.Author.Tests.{leb-true}
 use lib.Dec.{leb}
 use lib.ListN.{length, getD, take, drop, set, length-append, length-set, length-drop}
-use lib.Seq.{drop-drop, take-suc, getD-drop, getD-append-add}
+use lib.Seq.{drop-drop, take-take, take-suc, getD-drop, getD-append-add}
 use Rattle.memtable.specs.Moves.{putAt}
 use Rattle.key.proofs.Bytes.{both-parts, length-part}
 use Rattle.server.proofs.PlaceLaws.{places-length}
@@ -42,41 +42,41 @@ total-last s n = refl
 pub record Placing (w places : List ℕ) (count : ℕ) (a : List ℕ) (start i : ℕ) : Type 0 where
   pub within : i ≤ count
   pub same : length a ≡ length places
-  pub is : a ≡ putAt 0 (placesOf 2048 (part 132 i w)) places
-  pub start-is : start ≡ 2048 + total (part 132 i w)
-  pub left : start + total (part (132 + i) (count - i) w) ≡ 2048 + total (part 132 count w)
+  pub is : a ≡ putAt 0 (placesOf 0 (part 132 i w)) places
+  pub start-is : start ≡ total (part 132 i w)
+  pub left : start + total (part (132 + i) (count - i) w) ≡ total (part 132 count w)
 
-pub placing-none : (w places : List ℕ) (count : ℕ) → Placing w places count places 2048 0
+pub placing-none : (w places : List ℕ) (count : ℕ) → Placing w places count places 0 0
 unfolding placesOf total
 placing-none w places count = record {
   within = omega arith;
   same = refl;
   is = sym (written-none 0 places);
   start-is = refl;
-  left = ap (λ (l : List ℕ). 2048 + total l) (sym (part-start w 132 count));
+  left = zero-add _ ∙ ap total (sym (part-start w 132 count));
 }
 
 module _ {w places : List ℕ} {count : ℕ} {a : List ℕ} {start i : ℕ} (p : Placing w places count a start i) (x : Expandable w places count) where
-  left-next : i < count → start + (getD w (132 + i) 0 + total (part (132 + (i + 1)) (count - (i + 1)) w)) ≡ 2048 + total (part 132 count w)
+  left-next : i < count → start + (getD w (132 + i) 0 + total (part (132 + (i + 1)) (count - (i + 1)) w)) ≡ total (part 132 count w)
   unfolding total
   left-next h = ap (λ (l : List ℕ). start + total l) (sym (part-next w 132 count i 0 h (omega (arith, x .words, x .few)))) ∙ p .left
 
-  pub place-room : i < count → start + getD w (132 + i) 0 ≤ 10240
+  pub place-room : i < count → start + getD w (132 + i) 0 ≤ 8192
   place-room h = omega (arith, left-next h, x .room)
 
   pub placing-more : {len : ℕ} → len ≡ getD w (132 + i) 0 → i < count → Placing w places count (set (set a (2 * i) start) (2 * i + 1) len) (start + len) (i + 1)
   placing-more {len} e h =
       let ls : List ℕ = part 132 i w in
-      let t : List ℕ = placesOf 2048 ls in
+      let t : List ℕ = placesOf 0 ls in
       let c : length ls ≡ i = length-part 132 i w (omega (arith, x .words, x .few)) in
-      let tl : length t ≡ 2 * i = places-length 2048 ls ∙ ap (λ (n : ℕ). 2 * n) c in
+      let tl : length t ≡ 2 * i = places-length 0 ls ∙ ap (λ (n : ℕ). 2 * n) c in
       let t₁ : length (t ++ start ∷ []) ≡ 2 * i + 1 = length-append t (start ∷ []) ∙ ap (λ (n : ℕ). n + 1) tl in
       let at₀ : 2 * i ≡ 0 + length t = sym tl ∙ sym (zero-add (length t)) in
       let at₁ : 2 * i + 1 ≡ 0 + length (t ++ start ∷ []) = sym t₁ ∙ sym (zero-add (length (t ++ start ∷ []))) in
       let s : part 132 (i + 1) w ≡ ls ++ len ∷ [] = part-snoc w i (omega (arith, x .words, x .few)) ∙ ap (λ (n : ℕ). ls ++ n ∷ []) (sym e) in
-      let q : placesOf 2048 (part 132 (i + 1) w) ≡ (t ++ start ∷ []) ++ len ∷ [] =
-      ap (placesOf 2048) s ∙ places-snoc 2048 ls len ∙ ap (λ (n : ℕ). t ++ n ∷ len ∷ []) (sym (p .start-is)) ∙ sym (append-assoc t (start ∷ []) (len ∷ [])) in
-      let is′ : set (set a (2 * i) start) (2 * i + 1) len ≡ putAt 0 (placesOf 2048 (part 132 (i + 1) w)) places =
+      let q : placesOf 0 (part 132 (i + 1) w) ≡ (t ++ start ∷ []) ++ len ∷ [] =
+      ap (placesOf 0) s ∙ places-snoc 0 ls len ∙ ap (λ (n : ℕ). t ++ n ∷ len ∷ []) (zero-add (total ls) ∙ sym (p .start-is)) ∙ sym (append-assoc t (start ∷ []) (len ∷ [])) in
+      let is′ : set (set a (2 * i) start) (2 * i + 1) len ≡ putAt 0 (placesOf 0 (part 132 (i + 1) w)) places =
       (λ z. set (set (p .is z) (at₀ z) start) (at₁ z) len) ∙ ap (λ (l : List ℕ). set l (0 + length (t ++ start ∷ [])) len) (written-set 0 t places start (omega (arith, x .table)))
       ∙ written-set 0 (t ++ start ∷ []) places len (omega (arith, x .table)) ∙ ap (λ (l : List ℕ). putAt 0 l places) (sym q) in
       record {
@@ -87,8 +87,8 @@ module _ {w places : List ℕ} {count : ℕ} {a : List ℕ} {start i : ℕ} (p :
         left = omega (arith, left-next h);
       }
 
-  pub placed : count ≤ i → a ≡ putAt 0 (placesOf 2048 (part 132 count w)) places
-  placed h = p .is ∙ ap (λ (n : ℕ). putAt 0 (placesOf 2048 (part 132 n w)) places) (le-antisymm (p .within) h)
+  pub placed : count ≤ i → a ≡ putAt 0 (placesOf 0 (part 132 count w)) places
+  placed h = p .is ∙ ap (λ (n : ℕ). putAt 0 (placesOf 0 (part 132 n w)) places) (le-antisymm (p .within) h)
 
 -- WHAT THE PLACES ARE. Argument j of the table behind 2 k words is argument k + j of the whole.
 arguments-behind : (done rest : List ℕ) (s : Bytes) (k j n : ℕ) → length done ≡ 2 * k → argumentsAt (k + j) n (done ++ rest) s ≡ argumentsAt j n rest s
@@ -116,15 +116,18 @@ arguments-placed from size at (l ∷ ls) rest b h =
     ∙ ap (splitBy ls) (sym (drop-drop l at (part from size b))) in
     λ i. x i ∷ (y ∙ z) i
 
--- the table that `expand` leaves holds all arguments of the queue
-pub expanded : {w : List ℕ} {b : Bytes} (h : Held w b) (places : List ℕ) → argumentsAt 0 (total (part 68 (getD w 3 0) w)) (putAt 0 (placesOf 2048 (part 132 (total (part 68 (getD w 3 0) w)) w)) places) b ≡ concat (queueIn w b)
+-- the table that `expand` leaves holds all arguments of the queue, in the bytes that these lie in
+pub expanded : {w : List ℕ} {b : Bytes} (h : Held w b) (places : List ℕ)
+    → argumentsAt 0 (total (part 68 (getD w 3 0) w)) (putAt 0 (placesOf 0 (part 132 (total (part 68 (getD w 3 0) w)) w)) places) (part 2048 8192 b) ≡ concat (queueIn w b)
 unfolding putAt
 expanded {w} {b} h places =
     let n : ℕ = total (part 68 (getD w 3 0) w) in
     let ls : List ℕ = part 132 n w in
+    let d : Bytes = part 2048 8192 b in
     let c : length ls ≡ n = length-part 132 n w (omega (arith, h .words, h .few-arguments)) in
-    ap (λ (m : ℕ). argumentsAt 0 m (placesOf 2048 ls ++ drop (0 + length (placesOf 2048 ls)) places) b) (sym c)
-    ∙ arguments-placed 2048 8192 0 ls (drop (0 + length (placesOf 2048 ls)) places) b (omega (arith, h .room))
+    ap (λ (m : ℕ). argumentsAt 0 m (placesOf 0 ls ++ drop (0 + length (placesOf 0 ls)) places) d) (sym c)
+    ∙ arguments-placed 0 8192 0 ls (drop (0 + length (placesOf 0 ls)) places) d (omega (arith, h .room))
+    ∙ ap (splitBy ls) (take-take 8192 8192 (drop 2048 b) (omega arith))
     ∙ sym (queue-arguments h)
 
 pub has-room : {w : List ℕ} {b : Bytes} {p : List ℕ} {s : Bytes} {count : ℕ} → Held w b → PartsIn p s count → (getD w 0 0 ≡ 0 → ⊥)

@@ -18,7 +18,9 @@ use Rattle.server.specs.declared.Answer.{Answer}
 use Rattle.received.specs.declared.ReplyRead.{ReplyRead}
 use Rattle.received.specs.declared.ReplyRead.the-variants.{Wait, Whole, Fault, Returned}
 use Rattle.received.specs.Replies.{answerOf, tableOf, readReply}
+use Rattle.decision.specs.declared.Preview.{Preview}
 use Rattle.station.specs.declared.Answered.{Answered}
+use Rattle.station.specs.declared.Previewed.{Previewed}
 use Rattle.station.specs.declared.Reading.{Reading}
 use Rattle.station.specs.declared.Listed.{Listed}
 use Rattle.station.specs.declared.ReplyAnswer.{ReplyAnswer}
@@ -26,6 +28,10 @@ use Rattle.station.specs.declared.ReplyAnswer.{ReplyAnswer}
 -- the struct that a request returns here, as the one that the published call returns
 abbrev pub answerIn : Answered → Answer
 answerIn a = record { number = a .number; used = a .used; reply = a .reply }
+
+-- and the struct that a preview returns here
+abbrev pub previewIn : Previewed → Preview
+previewIn p = record { number = p .number; verdict = p .verdict; reply = p .reply; last = p .last }
 
 -- no value, with this number
 abbrev pub noReading : ℕ → Reading

@@ -9,8 +9,8 @@ ghost use mathlib.Core.Path.{_≡_};
 ghost use Prim.Native.Nat.{_/_};
 ghost use lib.ListN.{length};
 ghost use Rattle.memtable.specs.Rows.{RowIn, Valid};
-ghost use Rattle.calls.specs.Calls.{GroupPromise, OpenPromise, RequestPromise, TablePromise, lentOf};
-ghost use Rattle.station.specs.Station.{answerIn, entry-call, lastReading, listedAt, nextListed, noListed, noReading, read-call, readingAt, replyAnswer, ReplyPromise};
+ghost use Rattle.calls.specs.Calls.{GroupPromise, OpenPromise, PreviewPromise, RequestPromise, TablePromise, lentOf};
+ghost use Rattle.station.specs.Station.{answerIn, entry-call, lastReading, listedAt, nextListed, noListed, noReading, previewIn, read-call, readingAt, replyAnswer, ReplyPromise};
 
 // What a request returns: 0 or a number of document 01, the bytes used, and the length of the reply.
 #[repr(C)]
@@ -18,6 +18,15 @@ pub struct Answered {
     pub number: u64,
     pub used: usize,
     pub reply: usize,
+}
+
+// What a preview returns: 0 or a number, the verdict (255: none is reached), the length of the reply, and the last sequence that EXEC would leave.
+#[repr(C)]
+pub struct Previewed {
+    pub number: u64,
+    pub verdict: u64,
+    pub reply: usize,
+    pub last: u64,
 }
 
 // A value: 0 or 9, 1 if it was found, and the part of the store's bytes that holds it.
@@ -104,6 +113,27 @@ pub extern "C" fn registry_request(
         number: answer.number,
         used: answer.used,
         reply: answer.reply,
+    }
+}
+
+// What EXEC of a session would give. The reply stands in front of `out`, with zero behind it; store and sessions stay as they are.
+#[no_mangle]
+pub extern "C" fn registry_preview(
+    session: usize,
+    words: &[u64],
+    bytes: &[u8],
+    swords: &[u64],
+    sbytes: &[u8],
+    out: &mut [u8],
+) -> Previewed
+    ensures { λ r. ⌜ PreviewPromise session (now (out .entry)) (lentOf (now (words .entry)) (now (bytes .entry)) (now (swords .entry)) (now (sbytes .entry))) (previewIn r) (now (out .exit)) (lentOf (now (words .entry)) (now (bytes .entry)) (now (swords .entry)) (now (sbytes .entry))) ⌝ }
+{
+    let preview = registry::preview::preview(session, words, bytes, swords, sbytes, out);
+    Previewed {
+        number: preview.number,
+        verdict: preview.verdict,
+        reply: preview.reply,
+        last: preview.last,
     }
 }
 

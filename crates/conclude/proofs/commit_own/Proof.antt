@@ -1,5 +1,5 @@
 -- `conclude::commit_own` meets its contract. Assumes nothing.
-use Rattle.conclude.proofs.ConcludeLaws.{own-listed, own-written, own-bytes}
+use Rattle.conclude.proofs.ConcludeLaws.{own-listed, own-written, own-bytes, none-written, none-bytes}
 use borrow.Author.Needs.{needs}
 use Rattle.conclude.proofs.commit_own.Statement.{statement}
 use Rattle.conclude.proofs.commit_own.Tie as tie
@@ -16,5 +16,8 @@ same-length-2 c = search needs
 returns : tie.Need-returns
 returns c = (search own-written, search own-bytes)
 
+returns-2 : tie.Need-returns-2
+returns-2 c = (search none-written, search none-bytes)
+
 pub commit-own-spec : {M : Type 1} → statement M
-commit-own-spec = tie.close (tie.spec commit-ascending-requires same-length same-length-2 returns)
+commit-own-spec = tie.close (tie.spec commit-ascending-requires same-length same-length-2 returns returns-2)

@@ -1,27 +1,23 @@
 -- `exec::layout::lay_out` meets its contract. Assumes nothing.
-use Rattle.exec.proofs.LayoutLaws.{lengths-in, expandable, sum-small, lent-bytes, laid-out, put-room}
-use native.Mathlib.Omega.{arith}
+use Rattle.exec.proofs.LayoutLaws.{expandable, bytes-in, put-room, laid-out}
 use borrow.Author.Needs.{needs}
 use Rattle.exec.proofs.layout.lay_out.Statement.{statement}
 use Rattle.exec.proofs.layout.lay_out.Tie as tie
 
-word-requires : tie.Need-word-requires
-word-requires c κs = search needs
-
-sum-within-requires : tie.Need-sum-within-requires
-sum-within-requires c κs = search needs
-
-sum-within-requires-2 : tie.Need-sum-within-requires-2
-sum-within-requires-2 c κs = (search lengths-in, search needs)
-
-add-used : tie.Need-add-used
-add-used c = omega (arith, sum-small (c .before .before .before .before .before .before .before .pre .0) (c .before .before .word .ensures) (c .before .sum-within .ensures) (c .sum-within2 .ensures))
+add-end : tie.Need-add-end
+add-end c = search needs
 
 expand-requires : tie.Need-expand-requires
 expand-requires c κs = search expandable
 
-slice-aggregate-put : tie.Need-slice-aggregate-put
-slice-aggregate-put c = search lent-bytes
+sub-put : tie.Need-sub-put
+sub-put c = search needs
+
+part-put-start : tie.Need-part-put-start
+part-put-start c = search needs
+
+part-put-end : tie.Need-part-put-end
+part-put-end c = search bytes-in
 
 put-requires : tie.Need-put-requires
 put-requires c κs = search put-room
@@ -39,12 +35,11 @@ pub lay-out-spec : {M : Type 1} → statement M
 lay-out-spec =
     tie.close
     (tie.spec
-    word-requires
-    sum-within-requires
-    sum-within-requires-2
-    add-used
+    add-end
     expand-requires
-    slice-aggregate-put
+    sub-put
+    part-put-start
+    part-put-end
     put-requires
     same-length
     same-length-2

@@ -1,19 +1,18 @@
 -- `exec::transaction::exec_queue` meets its contract. Assumes nothing.
+use mathlib.Core.Path.{sym, _∙_}
+use Rattle.exec.proofs.LayoutLaws.{sizes-within}
 use borrow.Author.Needs.{needs}
 use Rattle.exec.proofs.transaction.exec_queue.Statement.{statement}
 use Rattle.exec.proofs.transaction.exec_queue.Tie as tie
 
-slice-aggregate-exec-in : tie.Need-slice-aggregate-exec-in
-slice-aggregate-exec-in c = search needs
+sizes-of-requires : tie.Need-sizes-of-requires
+sizes-of-requires c κs = sizes-within (c .before .before .before .before .before .before .pre .held)
 
-slice-aggregate-exec-in-2 : tie.Need-slice-aggregate-exec-in-2
-slice-aggregate-exec-in-2 c = search needs
+is-small-requires : tie.Need-is-small-requires
+is-small-requires c κs = search needs
 
-slice-aggregate-exec-in-3 : tie.Need-slice-aggregate-exec-in-3
-slice-aggregate-exec-in-3 c = search needs
-
-exec-in-requires : tie.Need-exec-in-requires
-exec-in-requires c κs = (search needs, (search needs, (search needs, search needs)))
+exec-small-requires : tie.Need-exec-small-requires
+exec-small-requires c κs = (c .before .before .before .before .before .before .before .before .before .before .before .before .before .pre, (c .before .before .before .before .before .before .sizes-of .ensures, sym (c .before .before .before .before .before .is-small .ensures) ∙ c .before .before .before .before .if1 .taken))
 
 same-length : tie.Need-same-length
 same-length c = search needs
@@ -30,16 +29,39 @@ same-length-4 c = search needs
 returns : tie.Need-returns
 returns c = search needs
 
+exec-large-requires : tie.Need-exec-large-requires
+exec-large-requires c κs = (c .before .before .before .before .before .before .before .before .before .before .before .before .before .pre, c .before .before .before .before .before .before .sizes-of .ensures)
+
+same-length-5 : tie.Need-same-length-5
+same-length-5 c = search needs
+
+same-length-6 : tie.Need-same-length-6
+same-length-6 c = search needs
+
+same-length-7 : tie.Need-same-length-7
+same-length-7 c = search needs
+
+same-length-8 : tie.Need-same-length-8
+same-length-8 c = search needs
+
+returns-2 : tie.Need-returns-2
+returns-2 c = search needs
+
 pub exec-queue-spec : {M : Type 1} → statement M
 exec-queue-spec =
     tie.close
     (tie.spec
-    slice-aggregate-exec-in
-    slice-aggregate-exec-in-2
-    slice-aggregate-exec-in-3
-    exec-in-requires
+    sizes-of-requires
+    is-small-requires
+    exec-small-requires
     same-length
     same-length-2
     same-length-3
     same-length-4
-    returns)
+    returns
+    exec-large-requires
+    same-length-5
+    same-length-6
+    same-length-7
+    same-length-8
+    returns-2)

@@ -1,20 +1,14 @@
--- `conclude::commit_reply` meets its contract. Assumes nothing.
-use Rattle.conclude.proofs.ConcludeLaws.{commits-wrote, commits-full}
+-- `conclude::apply` meets its contract. Assumes nothing.
+use Rattle.conclude.proofs.ConcludeLaws.{applies-number, applies-writes}
 use borrow.Author.Needs.{needs}
-use Rattle.conclude.proofs.commit_reply.Statement.{statement}
-use Rattle.conclude.proofs.commit_reply.Tie as tie
-
-enum-known-put : tie.Need-enum-known-put
-enum-known-put c = search needs
-
-enum-told : tie.Need-enum-told
-enum-told c = search needs
+use Rattle.conclude.proofs.apply.Statement.{statement}
+use Rattle.conclude.proofs.apply.Tie as tie
 
 refusal-requires : tie.Need-refusal-requires
 refusal-requires c κs = search needs
 
 returns : tie.Need-returns
-returns c = search commits-full
+returns c = search applies-number
 
 commit-own-requires : tie.Need-commit-own-requires
 commit-own-requires c κs = search needs
@@ -32,14 +26,12 @@ same-length-3 : tie.Need-same-length-3
 same-length-3 c = search needs
 
 returns-2 : tie.Need-returns-2
-returns-2 c = search commits-wrote
+returns-2 c = search applies-writes
 
-pub commit-reply-spec : {M : Type 1} → statement M
-commit-reply-spec =
+pub apply-spec : {M : Type 1} → statement M
+apply-spec =
     tie.close
     (tie.spec
-    enum-known-put
-    enum-told
     refusal-requires
     returns
     commit-own-requires
