@@ -18,6 +18,8 @@
  *   8  group above 64 members, verdict bytes fewer than members, or a part outside its buffer
  *   9  lent memory that is not a store and sixteen sessions; at opening, capacities that the buffers do not hold
  *
+ * registry_preview returns 1, 9, 6, 7 and 3, in this order, as EXEC of that session would.
+ *
  * registry_read_reply alone returns
  *
  *  11  the item table has no place for an item
@@ -54,6 +56,8 @@ extern "C" {
 #define REGISTRY_NO_ROOM 6
 #define REGISTRY_NO_SEQUENCE 7
 #define REGISTRY_NOT_TAKEN 255
+/* The verdict of a preview where EXEC would reach none. */
+#define REGISTRY_NO_VERDICT 255
 
 /* Words of an item table for replies of so many items. */
 #define REGISTRY_ITEM_WORDS(items) (4 * (items))
@@ -81,6 +85,14 @@ typedef struct {
     size_t used;     /* bytes of the request that were used; 0 with number 0: the request is not whole yet */
     size_t reply;    /* bytes of the reply, in front of the reply buffer; 0: no reply */
 } registry_answer;
+
+/* What a preview returns. */
+typedef struct {
+    uint64_t number;  /* 0, or 1, 3, 6, 7 or 9 */
+    uint64_t verdict; /* 0 accepted, 1 conflict, 255: none is reached, or a number was returned */
+    size_t reply;     /* bytes of the reply, in front of the reply buffer */
+    uint64_t last;    /* the last sequence that EXEC would leave; 0 with a number */
+} registry_previewed;
 
 /* A member of a group. Writes and checked keys are rows of one table of parts, so they stand in different parts of it. */
 typedef struct {
@@ -139,6 +151,17 @@ registry_answer registry_request(size_t session, const uint8_t *input, size_t in
                                  uint64_t *words, size_t words_count, uint8_t *bytes, size_t bytes_count,
                                  uint64_t *session_words, size_t session_words_count, uint8_t *session_bytes, size_t session_bytes_count,
                                  uint8_t *reply, size_t reply_count);
+
+/* What EXEC of a session would give. A preview changes nothing but the reply buffer. EXEC on the same store and sessions, with a place for its
+ * name in the argument table and as long a reply buffer, gives the same number and the same reply and, without a number, leaves that last sequence.
+ *   session                        0 to 15
+ *   words .. session_bytes_count   the store and the sessions: only read
+ *   reply, reply_count             written: the reply in front, zero behind it; with a number zero throughout
+ * No verdict is reached outside MULTI (`-ERR EXEC without MULTI`) and in a failed session (`-EXECABORT ..`). If accepted, the last sequence told is
+ * the store's plus the distinct keys that would be written; after a conflict or without a verdict it is the store's. */
+registry_previewed registry_preview(size_t session, const uint64_t *words, size_t words_count, const uint8_t *bytes, size_t bytes_count,
+                                    const uint64_t *session_words, size_t session_words_count,
+                                    const uint8_t *session_bytes, size_t session_bytes_count, uint8_t *reply, size_t reply_count);
 
 /* Judges a group and commits the accepted members: 0, or 8 or 9.
  *   members, members_count     at most 64

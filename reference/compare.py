@@ -8,8 +8,9 @@
     compare.py in-domain A B limits             compares each run only up to the first line that leaves the domain of runs against the Rust
 
 A and B are command lines, or `model`. Each run is a new process. The domain is that of README.md; input of the modes `mixed`, `exhaustive`
-and `long` is in it, and stays in it when it is shrunk. For the modes `long`, `groups` and `group-limits` the model and the
-programs must speak that form: `model` does by itself, `frames_rust` takes the argument `long`, and groups are for `groups_rust`.
+and `long` is in it, and stays in it when it is shrunk. For the modes `long`, `groups`, `group-limits` and `previews` the
+model and the programs must speak that form: `model` does by itself, `frames_rust` takes the argument `long`, groups are for `groups_rust`, and
+previews for the station's `groups_lib`.
 
     compare.py model rust/frames_rust mixed 1 200
 """
@@ -36,7 +37,7 @@ class Program:
         if self.command != ["model"]:
             done = subprocess.run(self.command, input=data, stdout=subprocess.PIPE)
             return model.lines_of(done.stdout) + ([] if done.returncode == 0 else [b"exit status %d" % done.returncode])
-        if self.mode in ("groups", "group-limits"):
+        if self.mode in generate.SCRIPTS:
             return model.lines_of(model.answer_groups(data))
         return model.lines_of(model.answer_frames(data, self.mode == "long"))
 
@@ -153,7 +154,7 @@ def show(one, two, lines, text):
     a, b = one.answers(lines), two.answers(lines)
     i = first_difference(a, b)
     print(text)
-    if one.mode in ("groups", "group-limits"):
+    if one.mode in generate.SCRIPTS:
         for line in lines:
             print("   ", line.decode()[:300])
     else:
@@ -183,7 +184,7 @@ def main(argv):
             lines = lines[: generate.lines_in_domain(lines, mode == "long")]
         if differ(one, two, lines):
             show(one, two, lines, f"run `{name}` differs:")
-            small = shrink(one, two, lines, mode not in ("groups", "group-limits"), in_domain or mode in IN_DOMAIN)
+            small = shrink(one, two, lines, mode not in generate.SCRIPTS, in_domain or mode in IN_DOMAIN)
             show(one, two, small, f"a smallest input ({len(small)} lines):")
             return 1
         count += 1

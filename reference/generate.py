@@ -12,6 +12,7 @@
     generate.py exhaustive-watched LENGTH   every such list with EXEC behind it that leaves the domain, for comparing with the model
     generate.py groups SEED RUNS            group scripts whose capacities hold all they write, for comparing with the Rust
     generate.py group-limits SEED RUNS      group scripts that meet 6, 7 and 8
+    generate.py previews SEED RUNS [LINES]  group scripts with requests and previews, for comparing the library with the model
 
 A file holds several runs; each begins with a line `# name` and is for a new process, since a store keeps every version.
 
@@ -91,7 +92,7 @@ class Domain(model.Registry):
         return super().outside(session, name, args)
 
     def exec(self, session):
-        if self.written_since_watch(session):
+        if session.queue is not None and self.written_since_watch(session):
             raise Omitted
         return super().exec(session)
 
@@ -510,6 +511,77 @@ class Numbers(Free):
         return super().request(s)
 
 
+class Previews(Watched):
+    """Scripts of requests, previews and groups over stores that are often small. The model runs beside them."""
+
+    def __init__(self, rng, lines, **fixed):
+        chosen = {"count": rng.choice([1, 2, 3]), "wrong": rng.choice([0.0, 0.05]), "write": rng.choice([0.05, 0.2])}
+        super().__init__(rng, lines, **(chosen | fixed))
+        self.calls = model.Groups()
+        self.script = []
+
+    def say(self, text):
+        self.script.append(text.encode())
+        return self.calls.line(text)
+
+    def open(self):
+        last = self.rng.choice([0, 0, 0, 5, 100, 2**64 - 1, 2**64 - 5, 2**64 - 12])
+        self.say(f"open {last} {self.rng.choice([0, 3, 9, 100, 100, 100])} {self.rng.choice([0, 30, 1000, 1000, 1000])}")
+        self.multi = [0] * self.count
+
+    def room(self, s):
+        """Reply bytes: enough, or about as many as EXEC of session s needs."""
+        if self.chance(0.6):
+            return 400
+        needed = len(self.calls.registry.preview(s, 400).reply)
+        return max(0, needed + self.rng.choice([-1, -1, 0, 0, 1, -needed]))
+
+    def member(self):
+        last = self.calls.registry.store.last
+        read = "-" if self.chance(0.5) else max(0, last - self.rng.choice([0, 0, 1, 3]))
+        writes = [f"+{self.key().hex()}=31" if self.chance(0.7) else f"-{self.key().hex()}" for _ in range(self.rng.choice([0, 1, 1, 2]))]
+        return " ".join([f"member {read}"] + writes)
+
+    def sequence(self):
+        """Another sequence for the first watched key of a session, one above the last among them."""
+        last = self.calls.registry.store.last
+        watching = [i for i, session in enumerate(self.calls.registry.sessions) if session.watched]
+        s = self.rng.choice(watching or [0])
+        self.say(f"sequence {s} {min(2**64 - 1, max(0, last + self.rng.choice([-2, -1, 0, 1, 1])))}")
+
+    def next_command(self, s):
+        args = super().next_command(s)
+        if args[0] == b"MULTI":
+            self.multi[s] += self.rng.choice([0, 2, 4])
+        return args
+
+    def step(self):
+        s = self.rng.randrange(self.count)
+        r = self.rng.random()
+        if self.calls.registry.damaged() and r < 0.15:
+            self.sequence()
+        elif r < 0.4:
+            s = s if self.chance(0.97) else self.rng.choice([15, 16, 17, 2**64 - 1])
+            self.say(f"preview {s} {self.room(s)}")
+        elif r < 0.43:
+            self.say(self.member())
+            self.say("group")
+        elif r < 0.48:
+            self.sequence()
+        elif r < 0.49:
+            self.say("versions")
+        elif r < 0.51:
+            self.open()
+        else:
+            self.say(f"request {s} {self.room(s)} {self.request(s).hex()}")
+
+    def run(self):
+        self.open()
+        while len(self.script) < self.lines:
+            self.step()
+        return self.script
+
+
 # Limits
 
 
@@ -754,6 +826,8 @@ def group_run(rng, limits):
 
 # Runs and files
 
+SCRIPTS = ("groups", "group-limits", "previews")  # modes whose lines are group scripts
+
 
 def runs_of(mode, seed=0, count=1, lines=300):
     """Pairs of a name and a list of lines."""
@@ -772,7 +846,7 @@ def runs_of(mode, seed=0, count=1, lines=300):
         if mode in ("groups", "group-limits"):
             yield name, group_run(rng, mode == "group-limits")
         else:
-            yield name, {"mixed": Mixed, "watched": Watched, "numbers": Numbers}[mode](rng, lines).run()
+            yield name, {"mixed": Mixed, "watched": Watched, "numbers": Numbers, "previews": Previews}[mode](rng, lines).run()
 
 
 def read_runs(data):
@@ -790,7 +864,7 @@ def read_runs(data):
 
 if __name__ == "__main__":
     mode, *rest = sys.argv[1:] or [""]
-    counts = {"mixed": 2, "watched": 2, "numbers": 2, "limits": 0, "long": 0, "exhaustive": 1, "exhaustive-watched": 1, "groups": 2, "group-limits": 2}
+    counts = {"mixed": 2, "watched": 2, "numbers": 2, "limits": 0, "long": 0, "exhaustive": 1, "exhaustive-watched": 1, "groups": 2, "group-limits": 2, "previews": 2}
     if len(rest) < counts.get(mode, 99):
         sys.exit(__doc__)
     for name, lines in runs_of(mode, *map(int, rest)):

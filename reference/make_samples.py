@@ -6,6 +6,7 @@ watched.in       generated input (fixed seed) with WATCH, writes and EXEC in any
                  argument count; watched.out is the model's output
 groups.in        group scripts (fixed seed) within capacities; groups.out is the Rust's output
 group-limits.in  group scripts that meet 6, 7 and 8; group-limits.out is the model's output
+previews.in      group scripts with requests and previews (fixed seed); previews.out is the model's output
 limits.in        each limit reached exactly and one beyond, in one run; limits.out is the model's output
 published.in     published examples; published.out is their expected output, byte for byte (published.md lists the sources and how they were taken)
 
@@ -171,6 +172,23 @@ def groups():
         write(f"{name}.in", lines)
         write(f"{name}.out", answers)
         print(f"{name}: {len(lines)} lines")
+
+
+# Every kind of answer to a preview that the sample must show: number, verdict, last sequence and reply
+PREVIEWED = [
+    rb"0 0 \d+ 2a3.*", rb"0 1 \d+ " + b"*-1\r\n".hex().encode(), rb"0 255 \d+ " + b"-ERR EXEC without MULTI\r\n".hex().encode(),
+    rb"0 255 \d+ " + b"-EXECABORT ".hex().encode() + rb".*",
+] + [b"%d 255 0 -" % number for number in (1, 9, 6, 7, 3)]
+
+
+def previews():
+    lines = [line for _, run in generate.runs_of("previews", 41, 2) for line in run]
+    answers = model.lines_of(model.answer_groups(text_of(lines)))
+    for pattern in PREVIEWED:
+        must(any(re.fullmatch(pattern, answer) for answer in answers), f"no preview is answered {pattern}")
+    write("previews.in", lines)
+    write("previews.out", answers)
+    print(f"previews: {len(lines)} lines, {sum(line.startswith(b'preview') for line in lines)} previews")
 
 
 RESP = "RESP protocol specification"
@@ -578,6 +596,7 @@ if __name__ == "__main__":
         watched()
         limits()
         groups()
+        previews()
         published()
     else:
         sys.exit(__doc__)

@@ -1,11 +1,13 @@
 #!/usr/bin/env python3
-"""A model of document 01 with R-1, R-7 and R-8 of document 02: requests, sessions, versions, groups and the program `frames`, slow and obvious.
+"""A model of document 01 with R-1, R-6, R-7 and R-8 of document 02: requests, sessions, versions, groups, previews and the program `frames`,
+slow and obvious.
 
 It is written from the documents' sentences, with lists, dictionaries and sets, and shares no code with the Rust.
 
     model.py frames         reads and writes lines as the program `frames`
     model.py frames long    the same without the two limits of 4,096 bytes, and with a reply buffer that holds any reply
-    model.py groups         reads group scripts (their form: rust/drivers/groups_rust.rs)
+    model.py groups         reads group scripts (their form: rust/drivers/groups_rust.rs; three instructions more, for requests
+                            and previews: station/src/bin/groups_lib.rs)
 """
 
 import re
@@ -290,6 +292,16 @@ class Store:
     def bytes_used(self):
         return sum(len(k) + len(v or b"") for k, _, v in self.versions)
 
+    def damaged(self):
+        """What 9 says of a store without a layout; of one that is lent, `lent_store` says the rest."""
+        kept = [(k, s) for k, s, _ in self.versions]
+        return (
+            len(kept) > self.max_versions
+            or self.bytes_used() > self.max_bytes
+            or len(set(kept)) < len(kept)
+            or any(s > self.last for _, s in kept)
+        )
+
     def verdict(self, member, written=frozenset()):
         """0, 1, 6 or 7 for a member behind accepted ones that wrote the keys `written`."""
         if member.read is not None:
@@ -464,7 +476,7 @@ def range_of(a, table):
     return array([bulk(item) for pair in found for item in pair])
 
 
-# Sessions (section 7, R-7 and R-8)
+# Sessions (section 7, R-6, R-7 and R-8)
 
 
 class Session(NamedTuple):
@@ -474,6 +486,7 @@ class Session(NamedTuple):
 
 
 CLEAR = Session()
+ACCEPTED, CONFLICT, NO_VERDICT = 0, 1, 255
 
 
 class Step(NamedTuple):
@@ -484,11 +497,25 @@ class Step(NamedTuple):
     writes: list = []
 
 
+class Decision(NamedTuple):
+    """What EXEC comes to before anything is done: the verdict, and the step that it then takes."""
+
+    verdict: int
+    step: Step
+
+
 class Answer(NamedTuple):
     number: int
     used: int = 0
     reply: bytes = b""
     closed: bool = False  # QUIT or a protocol error
+
+
+class Previewed(NamedTuple):
+    number: int
+    verdict: int = NO_VERDICT
+    reply: bytes = b""
+    last: int = 0
 
 
 class Registry:
@@ -525,6 +552,21 @@ class Registry:
         self.sessions[index] = step.session
         return Answer(0, used, reply, closed)
 
+    def preview(self, index, room=REPLY_ROOM):
+        """What EXEC of that session would give; nothing is done. Numbers in the order 1, 9, 6, 7, 3."""
+        if index >= SESSIONS:
+            return Previewed(1)
+        if self.damaged():
+            return Previewed(9)
+        try:
+            verdict, step = self.decide(self.sessions[index])
+        except Number as n:
+            return Previewed(n.number)
+        reply = encode(step.reply)
+        if len(reply) > room:
+            return Previewed(3)
+        return Previewed(0, verdict, reply, self.store.last + len(step.writes))
+
     def respond(self, session, args):
         name = args[0].upper()
         if name == b"QUIT":
@@ -536,8 +578,10 @@ class Registry:
     def outside(self, session, name, args):
         if name == b"MULTI":
             return Step(OK, session._replace(queue=(), failed=False))
-        if name in (b"EXEC", b"DISCARD"):
-            return Step(err(name + b" without MULTI"), session)
+        if name == b"EXEC":
+            return self.exec(session)
+        if name == b"DISCARD":
+            return Step(err(b"DISCARD without MULTI"), session)
         if name == b"WATCH":
             return self.watch(session, args)
         if name == b"UNWATCH":
@@ -576,10 +620,16 @@ class Registry:
         return Step(simple(b"QUEUED"), session._replace(queue=queue))
 
     def exec(self, session):
+        return self.decide(session).step
+
+    def decide(self, session):
+        """EXEC of a session, nothing done yet; 6 and 7 leave the call."""
+        if session.queue is None:
+            return Decision(NO_VERDICT, Step(err(b"EXEC without MULTI"), session))
         if session.failed:
-            return Step(error(b"EXECABORT Transaction discarded because of previous errors."), CLEAR)
+            return Decision(NO_VERDICT, Step(error(b"EXECABORT Transaction discarded because of previous errors."), CLEAR))
         if any((self.store.newest(key) or 0) > sequence for key, sequence in session.watched):
-            return Step(array(None), CLEAR)
+            return Decision(CONFLICT, Step(array(None), CLEAR))
         own, replies = {}, []
         for args in session.queue:
             effect = execute(args, lambda key: own[key] if key in own else self.store.read(key, self.store.last), None)
@@ -587,7 +637,7 @@ class Registry:
             replies.append(effect.reply)
         writes = sorted(own.items())
         self.must_fit(writes)
-        return Step(array(replies), CLEAR, writes)
+        return Decision(ACCEPTED, Step(array(replies), CLEAR, writes))
 
     def must_fit(self, writes):
         """6 and 7 leave the call."""
@@ -596,8 +646,8 @@ class Registry:
             raise Number(verdict)
 
     def group(self, members, verdict_room=GROUP_MEMBERS):
-        """A number and the verdict bytes that are written."""
-        if self.damaged():
+        """A number and the verdict bytes that are written. Sessions are not lent."""
+        if self.store.damaged():
             return 9, []
         if len(members) > GROUP_MEMBERS or verdict_room < len(members):
             return 8, []
@@ -605,7 +655,7 @@ class Registry:
 
     def group_in(self, data, members, verdict_room=GROUP_MEMBERS):
         """The same with members whose keys and values are parts (start, length) of `data`."""
-        if self.damaged():
+        if self.store.damaged():
             return 9, []
         if len(members) > GROUP_MEMBERS or verdict_room < len(members):
             return 8, []
@@ -618,16 +668,7 @@ class Registry:
         )
 
     def damaged(self):
-        """What 9 says of a state without a layout; of one that is lent, `lent_store` says the rest."""
-        store = self.store
-        kept = [(k, s) for k, s, _ in store.versions]
-        return (
-            len(kept) > store.max_versions
-            or store.bytes_used() > store.max_bytes
-            or len(set(kept)) < len(kept)
-            or any(s > store.last for _, s in kept)
-            or any(self.damaged_session(session) for session in self.sessions)
-        )
+        return self.store.damaged() or any(self.damaged_session(session) for session in self.sessions)
 
     def damaged_session(self, session):
         if session is CLEAR:
@@ -726,7 +767,9 @@ class Frames:
         return m[1] + b" " + (replies.hex().encode() + mark or b"-")
 
 
-# Group scripts
+# Group scripts, with requests and previews
+
+SCRIPT_PLACES = 64
 
 
 def script_bytes(text):
@@ -757,6 +800,14 @@ class Groups:
             number, verdicts = self.registry.group(self.members, len(self.members))
             self.members = []
             return f"!{number}" if number else " ".join(map(str, verdicts)) or "none"
+        elif word == "request":
+            answer = self.registry.request(int(rest[0]), script_bytes(rest[2]), SCRIPT_PLACES, int(rest[1]))
+            return f"{answer.number} {answer.used} {answer.reply.hex() or '-'}"
+        elif word == "preview":
+            told = self.registry.preview(int(rest[0]), int(rest[1]))
+            return f"{told.number} {told.verdict} {told.last} {told.reply.hex() or '-'}"
+        elif word == "sequence":
+            self.set_sequence(*map(int, rest))
         elif word == "versions":
             store = self.registry.store
             shown = [f"{script_text(k)}@{s}" + ("" if v is None else "=" + script_text(v)) for k, s, v in store.in_order()]
@@ -764,6 +815,12 @@ class Groups:
         else:
             raise ValueError(line)
         return None
+
+    def set_sequence(self, index, sequence):
+        """The sequence of the session's first watched key, if it has one."""
+        session = self.registry.sessions[index]
+        keys = [(key, sequence if at == 0 else kept) for at, (key, kept) in enumerate(session.watched)]
+        self.registry.sessions[index] = session._replace(watched=tuple(keys))
 
     def member(self, words):
         writes, checks = [], []

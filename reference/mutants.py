@@ -22,17 +22,17 @@ PLANTED = [
     ("a repeated WATCH renews the sequence of a key", "{key: self.store.last for key in args[1:]} | dict(session.watched)", "dict(session.watched) | {key: self.store.last for key in args[1:]}", "watched"),
     ("a later key is judged by the first key's sequence", "{key: self.store.last for key in args[1:]}", "{key: min([s for _, s in session.watched], default=self.store.last) for key in args[1:]}", "watched"),
     ("a later WATCH renews every sequence", "watched = {key: self.store.last for key in args[1:]} | dict(session.watched)", "watched = {key: self.store.last for key in args[1:] + [k for k, _ in session.watched]}", "watched"),
-    ("a written key conflicts", "        self.must_fit(writes)\n        return Step(array(replies)", "        if self.store.verdict(Member(min([s for _, s in session.watched], default=None), writes, [])) == 1:\n            return Step(array(None), CLEAR)\n        self.must_fit(writes)\n        return Step(array(replies)", "watched"),
+    ("a written key conflicts", "        self.must_fit(writes)\n        return Decision(ACCEPTED", "        if self.store.verdict(Member(min([s for _, s in session.watched], default=None), writes, [])) == 1:\n            return Decision(CONFLICT, Step(array(None), CLEAR))\n        self.must_fit(writes)\n        return Decision(ACCEPTED", "watched"),
     ("a moved watched key is not noticed", "if any((self.store.newest(key) or 0) > sequence for", "if False and any((self.store.newest(key) or 0) > sequence for", "watched"),
     ("only the first watched key is looked at", "> sequence for key, sequence in session.watched):", "> sequence for key, sequence in session.watched[:1]):", "watched"),
     ("a version at a watched key's sequence conflicts", "(self.store.newest(key) or 0) > sequence", "(self.store.newest(key) or 0) >= sequence > 0", "watched"),
     ("EXEC reads at the first WATCH", "own[key] if key in own else self.store.read(key, self.store.last)", "own[key] if key in own else self.store.read(key, min([s for _, s in session.watched], default=self.store.last))", "watched"),
     ("EXEC does not read its own writes", "own[key] if key in own else self.store.read(key, self.store.last)", "self.store.read(key, self.store.last)", "mixed"),
     ("MULTI drops the watch", "session._replace(queue=(), failed=False)", "Session(queue=())", "watched"),
-    ("EXEC without MULTI drops the watch", "return Step(err(name + b\" without MULTI\"), session)", "return Step(err(name + b\" without MULTI\"), CLEAR)", "watched"),
+    ("EXEC without MULTI drops the watch", "Step(err(b\"EXEC without MULTI\"), session)", "Step(err(b\"EXEC without MULTI\"), CLEAR)", "watched"),
     ("DISCARD keeps the watch", "if name == b\"DISCARD\":\n            return Step(OK, CLEAR)", "if name == b\"DISCARD\":\n            return Step(OK, session._replace(queue=None, failed=False))", "mixed"),
-    ("a conflict keeps the watch", "return Step(array(None), CLEAR)", "return Step(array(None), session._replace(queue=None))", "watched"),
-    ("an accepted EXEC keeps the watch", "return Step(array(replies), CLEAR, writes)", "return Step(array(replies), session._replace(queue=None), writes)", "watched"),
+    ("a conflict keeps the watch", "Step(array(None), CLEAR)", "Step(array(None), session._replace(queue=None))", "watched"),
+    ("an accepted EXEC keeps the watch", "Step(array(replies), CLEAR, writes)", "Step(array(replies), session._replace(queue=None), writes)", "watched"),
     ("EXECABORT keeps the watch", "previous errors.\"), CLEAR)", "previous errors.\"), session._replace(queue=None, failed=False))", "watched"),
     ("an unknown name does not mark", "return Step(reply, session._replace(failed=True))", "return Step(reply, session)", "mixed"),
     ("a wrong count does not mark", "return Step(refused, session._replace(failed=True))", "return Step(refused, session)", "numbers"),
@@ -85,7 +85,7 @@ PLANTED = [
     ("4 does not mark", "if n.number == 4:", "if False:", "limits"),
     ("1,025 versions are kept", "> self.max_versions or self.bytes_used()", "> self.max_versions + 1 or self.bytes_used()", "limits"),
     ("32,769 bytes are kept", "self.bytes_used() + size > self.max_bytes", "self.bytes_used() + size > self.max_bytes + 1", "limits"),
-    ("6 comes before a conflict", "return Step(array(None), CLEAR)", "self.must_fit([(args[1], None) for args in session.queue if args[0].upper() == b\"SET\"])\n            return Step(array(None), CLEAR)", "limits"),
+    ("6 comes before a conflict", "return Decision(CONFLICT", "self.must_fit([(args[1], None) for args in session.queue if args[0].upper() == b\"SET\"])\n            return Decision(CONFLICT", "limits"),
     ("6 comes before a member's conflict", "if member.read is not None:\n            for key", "if len(self.versions) + len(member.writes) > self.max_versions:\n            return 6\n        if member.read is not None:\n            for key", "group-limits"),
     ("3 leaves no queue", "return Answer(3)", "self.sessions[index] = step.session\n            return Answer(3)", "limits"),
     ("65,537 bytes make a line", "if lf - start > 65536:", "if lf - start > 65537:", "long"),
@@ -99,8 +99,22 @@ PLANTED = [
     ("7 at the last sequence of all", "> LARGEST_SEQUENCE:", ">= LARGEST_SEQUENCE:", "group-limits"),
     ("65 members are taken", "len(members) > GROUP_MEMBERS or verdict_room", "len(members) > GROUP_MEMBERS + 1 or verdict_room", "group-limits"),
     ("7 comes before 6", "return 6\n        if self.last + len(member.writes) > LARGEST_SEQUENCE:\n            return 7", "return 7 if self.last + len(member.writes) > LARGEST_SEQUENCE else 6\n        if self.last + len(member.writes) > LARGEST_SEQUENCE:\n            return 7", "group-limits"),
+    ("a preview takes number 6 for the verdict", "return Previewed(n.number)", "return Previewed(n.number, n.number)", "previews"),
+    ("a preview keeps the verdict with 3", "return Previewed(3)", "return Previewed(3, verdict)", "previews"),
+    ("a preview passes over its buffer", "if len(reply) > room:\n            return Previewed(3)", "", "previews"),
+    ("a preview tells the last sequence of before", "self.store.last + len(step.writes))", "self.store.last)", "previews"),
+    ("a preview counts commands, not keys", "self.store.last + len(step.writes))", "self.store.last + len(self.sessions[index].queue or ()))", "previews"),
+    ("a preview tells the last sequence with a verdict alone", "self.store.last + len(step.writes))", "self.store.last + len(step.writes) if verdict != NO_VERDICT else 0)", "previews"),
+    ("a conflict is previewed as accepted", "Decision(CONFLICT", "Decision(ACCEPTED", "previews"),
+    ("a failed session is previewed as a conflict", "Decision(NO_VERDICT, Step(error(", "Decision(CONFLICT, Step(error(", "previews"),
+    ("EXEC without MULTI is previewed as accepted", "Decision(NO_VERDICT, Step(err(", "Decision(ACCEPTED, Step(err(", "previews"),
+    ("a preview drops the queue", "        return Previewed(0, verdict", "        self.sessions[index] = step.session\n        return Previewed(0, verdict", "previews"),
+    ("a preview writes", "        return Previewed(0, verdict", "        self.store.write(step.writes)\n        return Previewed(0, verdict", "previews"),
+    ("a preview passes over damage", "if self.damaged():\n            return Previewed(9)", "", "previews"),
+    ("a preview gives 9 before 1", "if index >= SESSIONS:\n            return Previewed(1)\n        if self.damaged():\n            return Previewed(9)", "if self.damaged():\n            return Previewed(9)\n        if index >= SESSIONS:\n            return Previewed(1)", "previews"),
+    ("a preview gives 3 before 6", "verdict, step = self.decide(self.sessions[index])", "if room < 5:\n                return Previewed(3)\n            verdict, step = self.decide(self.sessions[index])", "previews"),
 ]
-RUNS = {"mixed": 400, "watched": 400, "numbers": 50, "groups": 1500, "group-limits": 1500}
+RUNS = {"mixed": 400, "watched": 400, "numbers": 50, "groups": 1500, "group-limits": 1500, "previews": 200}
 
 
 def wrong_model(old, new):
@@ -116,14 +130,14 @@ def wrong_model(old, new):
 def answer(module, mode, lines):
     data = b"".join(line + b"\n" for line in lines)
     try:
-        return module.answer_groups(data) if mode.startswith("group") else module.answer_frames(data, mode == "long")
+        return module.answer_groups(data) if mode in generate.SCRIPTS else module.answer_frames(data, mode == "long")
     except Exception as e:
         return repr(e)
 
 
 def main(seed):
     missed = 0
-    kept = {mode: [] for mode in ("mixed", "watched", "numbers", "limits", "long", "groups", "group-limits")}
+    kept = {mode: [] for mode in ("mixed", "watched", "numbers", "limits", "long", "groups", "group-limits", "previews")}
     made = {mode: generate.runs_of(mode, seed, RUNS.get(mode, 1)) for mode in kept}
 
     def runs(mode):

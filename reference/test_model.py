@@ -1,5 +1,6 @@
 #!/usr/bin/env python3
-"""Runs the model on the readings of document 01, on the points that its text leaves open, on R-1, on R-7 and on R-8. Exit status 1 on a difference."""
+"""Runs the model on the readings of document 01, on the points that its text leaves open, on R-1, on R-6, on R-7 and on R-8. Exit status 1 on a
+difference."""
 
 import sys
 
@@ -185,6 +186,46 @@ same("conflict before 6", last_reply(b"WATCH a\n", b"SET a 1\n", b"MULTI\n", b"S
 last = registry(last=2**64 - 2)
 same("conflict before 7", last_reply(b"WATCH a\n", b"SET a 1\n", b"MULTI\n", b"SET b 1\n", b"EXEC\n", r=last), b"*-1\r\n")
 
+# R-6: a preview is what EXEC would give; nothing is done
+def previewed(*steps, r=None, room=32768, index=0):
+    """A preview behind the steps, the same again, and then EXEC, which must give what both told."""
+    r = r or registry()
+    replies(*steps, r=r)
+    told = r.preview(index, room)
+    same("the same preview again", r.preview(index, room), told)
+    answer = r.request(index, b"EXEC\n", room=room)
+    same("EXEC gives what was told", (answer.number, answer.reply), (told.number, told.reply))
+    same("EXEC leaves the last sequence that was told", r.store.last if told.number == 0 else 0, told.last)
+    return tuple(told)
+
+
+same("outside MULTI", previewed(b"SET a 1\n"), (0, 255, b"-ERR EXEC without MULTI\r\n", 1))
+same("failed", previewed(b"MULTI\n", b"FOO\n"), (0, 255, ABORT, 0))
+same("conflict", previewed(b"WATCH a\n", b"SET a 1\n", b"MULTI\n", b"SET b 1\n"), (0, 1, b"*-1\r\n", 1))
+same("3 after a verdict", previewed(b"MULTI\n", room=3), (3, 255, b"", 0))
+same("a preview that just fits", previewed(b"MULTI\n", room=4), (0, 0, b"*0\r\n", 0))
+same("6", previewed(b"MULTI\n", b"SET a 1\n", r=registry(versions=0, size=100000)), (6, 255, b"", 0))
+same("7", previewed(b"MULTI\n", b"SET a 1\n", r=registry(last=2**64 - 1)), (7, 255, b"", 0))
+same("6 before 7", previewed(b"MULTI\n", b"SET a 1\n", r=registry(last=2**64 - 1, versions=0)), (6, 255, b"", 0))
+same("6 before 3", previewed(b"MULTI\n", b"SET a 1\n", r=registry(versions=0), room=0), (6, 255, b"", 0))
+same("7 before 3", previewed(b"MULTI\n", b"SET a 1\n", r=registry(last=2**64 - 1), room=0), (7, 255, b"", 0))
+two_keys = [b"MULTI\n", b"SET a 1\n", b"SET b 2\n", b"SET a 3\n", b"GET a\n"]
+same("two keys written three times", previewed(*two_keys, r=registry(last=5)), (0, 0, b"*4\r\n+OK\r\n+OK\r\n+OK\r\n$1\r\n3\r\n", 7))
+same("no write at the last sequence of all", previewed(b"MULTI\n", b"GET a\n", r=registry(last=2**64 - 1)), (0, 0, b"*1\r\n$-1\r\n", 2**64 - 1))
+same("conflict before 6", previewed(b"WATCH a\n", b"SET a 1\n", b"MULTI\n", b"SET b 1\n", r=registry(versions=1)), (0, 1, b"*-1\r\n", 1))
+same("a conflict that does not fit", previewed(b"WATCH a\n", b"SET a 1\n", b"MULTI\n", room=4), (3, 255, b"", 0))
+same("1", previewed(index=16), (1, 255, b"", 0))
+r = registry()
+r.sessions[1] = model.Session(watched=((b"a", 1),))
+same("9", previewed(r=r), (9, 255, b"", 0))
+same("1 before 9", previewed(r=r, index=16), (1, 255, b"", 0))
+same("9 before 3", previewed(r=r, room=0), (9, 255, b"", 0))
+r = registry()
+replies(b"WATCH a\n", b"MULTI\n", b"SET a 1\n", r=r)
+kept = r.store.last, list(r.store.versions), list(r.sessions)
+r.preview(0)
+same("a preview leaves store and sessions", (r.store.last, r.store.versions, r.sessions), kept)
+
 # 9
 session = lambda **k: model.Session(**k)
 for name, state, wanted in (
@@ -208,6 +249,8 @@ for name, state, wanted in (
     r = registry(last=5)
     r.sessions[0] = state
     same(name, r.request(3, b"PING\n").number, wanted)
+    same(f"{name}: a preview", r.preview(3).number, wanted)
+    same(f"{name}: a group, which is lent no session", r.group([]), (0, []))
 good = model.Lent([(0, 1, 1, 2), (2, 1, None, 1)], 3, 2, 4, 16, 4, b"axa" + bytes(13))
 same("a lent store", model.lent_store(good).in_order(), [(b"a", 2, b"x"), (b"a", 1, None)])
 for name, lent in (

@@ -47,7 +47,7 @@ step "reference built" 600 bash -c build_reference
 for name in mixed-1 mixed-2 mixed-3 mixed-4 watched limits published; do
     step "sample $name" 60 bash -c 'sample "$@"' _ "$BIN/frames_lib" "$name"
 done
-for name in groups group-limits; do
+for name in groups group-limits previews; do
     step "sample $name" 60 bash -c 'sample "$@"' _ "$BIN/groups_lib" "$name"
 done
 step "damaged states and groups" 600 "$BIN/damage" 1 "$STATES" 30000
@@ -57,10 +57,11 @@ step "model: limits" 300 bash -c 'compare "$@"' _ model "$BIN/frames_lib" limits
 step "model: numbers" 300 bash -c 'compare "$@"' _ model "$BIN/frames_lib" numbers 1 20
 step "model: long lines" 300 bash -c 'compare "$@"' _ model "$BIN/frames_lib long" long
 step "model: groups with limits" 300 bash -c 'compare "$@"' _ model "$BIN/groups_lib" group-limits 1 150
+step "model: previews" 300 bash -c 'compare "$@"' _ model "$BIN/groups_lib" previews 1 100
 step "replies beside the reference" 300 bash -c 'fuzz_replies "$@"' _ "$STRINGS"
 step "read_replies" 60 bash -c read_replies
 step "show_replies" 120 bash -c show_replies
-for name in redis_cli connections benchmark side_by_side; do
+for name in redis_cli preview connections benchmark side_by_side; do
     step "$name" 180 "$HERE/tests/$name.sh"
 done
 echo "$FAILED failed"

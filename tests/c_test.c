@@ -1,5 +1,5 @@
-/* Links the library and runs open, request, group, the readings and the reader of replies on buffers of its own. Ends with status 1 at the first
- * difference. */
+/* Links the library and runs open, request, preview, group, the readings and the reader of replies on buffers of its own. Ends with status 1 at
+ * the first difference. */
 #include "registry.h"
 #include <stdio.h>
 #include <stdlib.h>
@@ -171,6 +171,96 @@ static void test_walk(void) {
     CHECK(registry_read(words, sizeof words / 8, bytes, 1, (const uint8_t *)"a", 1).number == 9);
 }
 
+/* An empty store and clear sessions in the same buffers. */
+static void reopen(uint64_t last, size_t versions) {
+    memset(session_words, 0, sizeof session_words);
+    CHECK(registry_open(words, sizeof words / 8, bytes, sizeof bytes, last, versions, SIZE) == 0);
+}
+
+/* One whole request of session 0, answered without a number. */
+static void say(const char *text) {
+    registry_answer a = send_bytes(0, text, strlen(text));
+    CHECK(a.number == 0 && a.used == strlen(text));
+}
+
+/* A preview with so many reply bytes gives these, leaves store and sessions as they are, and EXEC then gives the same. */
+static int previews(size_t session, size_t room, uint64_t number, uint64_t verdict, const char *answer, uint64_t last) {
+    static uint64_t words_before[sizeof words / 8], session_words_before[sizeof session_words / 8];
+    static uint8_t bytes_before[sizeof bytes], session_bytes_before[sizeof session_bytes];
+    uint8_t due[sizeof reply];
+    memcpy(words_before, words, sizeof words);
+    memcpy(bytes_before, bytes, sizeof bytes);
+    memcpy(session_words_before, session_words, sizeof session_words);
+    memcpy(session_bytes_before, session_bytes, sizeof session_bytes);
+    memset(due, 0xaa, sizeof due);
+    memset(due, 0, room);
+    memcpy(due, answer, strlen(answer));
+    memset(reply, 0xaa, sizeof reply);
+    registry_previewed p = registry_preview(session, words, sizeof words / 8, bytes, sizeof bytes, session_words, sizeof session_words / 8,
+                                            session_bytes, sizeof session_bytes, reply, room);
+    if (p.number != number || p.verdict != verdict || p.reply != strlen(answer) || p.last != last || memcmp(reply, due, sizeof reply) != 0) {
+        return 0;
+    }
+    if (memcmp(words, words_before, sizeof words) != 0 || memcmp(bytes, bytes_before, sizeof bytes) != 0
+        || memcmp(session_words, session_words_before, sizeof session_words) != 0
+        || memcmp(session_bytes, session_bytes_before, sizeof session_bytes) != 0) {
+        return 0;
+    }
+    memset(reply, 0xaa, sizeof reply);
+    registry_answer a = registry_request(session, (const uint8_t *)"EXEC\r\n", 6, places, sizeof places / 8, words, sizeof words / 8, bytes,
+                                         sizeof bytes, session_words, sizeof session_words / 8, session_bytes, sizeof session_bytes, reply, room);
+    return a.number == number && a.reply == strlen(answer) && memcmp(reply, due, sizeof reply) == 0 && (number != 0 || words[2] == last);
+}
+
+static void test_previews(void) {
+    const uint64_t most = UINT64_MAX;
+    const char *aborted = "-EXECABORT Transaction discarded because of previous errors.\r\n";
+    reopen(0, VERSIONS);
+    say("SET a 1\r\n");
+    CHECK(previews(0, 64, 0, REGISTRY_NO_VERDICT, "-ERR EXEC without MULTI\r\n", 1));
+    reopen(0, VERSIONS);
+    say("MULTI\r\n");
+    say("FOO\r\n");
+    CHECK(previews(0, 64, 0, REGISTRY_NO_VERDICT, aborted, 0));
+    CHECK(previews(0, 64, 0, REGISTRY_NO_VERDICT, "-ERR EXEC without MULTI\r\n", 0));
+    reopen(0, VERSIONS);
+    say("WATCH a\r\n");
+    say("SET a 1\r\n");
+    say("MULTI\r\n");
+    say("SET b 1\r\n");
+    CHECK(previews(0, 4, 3, REGISTRY_NO_VERDICT, "", 0));
+    CHECK(previews(0, 64, 0, REGISTRY_CONFLICT, "*-1\r\n", 1));
+    reopen(0, VERSIONS);
+    say("MULTI\r\n");
+    CHECK(previews(0, 3, 3, REGISTRY_NO_VERDICT, "", 0));
+    CHECK(previews(0, 0, 3, REGISTRY_NO_VERDICT, "", 0));
+    CHECK(previews(0, 4, 0, REGISTRY_ACCEPTED, "*0\r\n", 0));
+    reopen(0, 0);
+    say("MULTI\r\n");
+    say("SET a 1\r\n");
+    CHECK(previews(0, 64, 6, REGISTRY_NO_VERDICT, "", 0));
+    CHECK(previews(0, 3, 6, REGISTRY_NO_VERDICT, "", 0));
+    reopen(most, VERSIONS);
+    say("MULTI\r\n");
+    say("SET a 1\r\n");
+    CHECK(previews(0, 64, 7, REGISTRY_NO_VERDICT, "", 0));
+    CHECK(previews(0, 3, 7, REGISTRY_NO_VERDICT, "", 0));
+    reopen(5, VERSIONS);
+    say("MULTI\r\n");
+    say("SET a 1\r\n");
+    say("SET b 2\r\n");
+    say("SET a 3\r\n");
+    say("GET a\r\n");
+    CHECK(previews(16, 64, 1, REGISTRY_NO_VERDICT, "", 0));
+    CHECK(previews(0, 64, 0, REGISTRY_ACCEPTED, "*4\r\n+OK\r\n+OK\r\n+OK\r\n$1\r\n3\r\n", 7));
+    CHECK(holds("a", "3") && holds("b", "2"));
+    session_words[3] = 1;
+    CHECK(previews(0, 64, 9, REGISTRY_NO_VERDICT, "", 0));
+    CHECK(previews(16, 64, 1, REGISTRY_NO_VERDICT, "", 0));
+    session_words[3] = 0;
+    CHECK(previews(0, 64, 0, REGISTRY_NO_VERDICT, "-ERR EXEC without MULTI\r\n", 7));
+}
+
 /* A reply read with a table of so many words, none of which is zero before. */
 static registry_reply read_text(const char *text, size_t count) {
     memset(items, 0xaa, sizeof items);
@@ -234,6 +324,7 @@ int main(void) {
     test_numbers();
     test_groups();
     test_walk();
+    test_previews();
     test_replies();
     test_behind();
     printf("c_test: %d checks hold\n", checks);

@@ -16,6 +16,16 @@ pub struct Answer {
     pub reply: usize,
 }
 
+/// What a preview returns: 0 or a number, the verdict, the length of the reply, and the last sequence that EXEC would leave.
+#[repr(C)]
+#[derive(Clone, Copy, Debug, PartialEq, Eq)]
+pub struct Previewed {
+    pub number: u64,
+    pub verdict: u64,
+    pub reply: usize,
+    pub last: u64,
+}
+
 /// A member of a group: its read sequence, if it has one, and the places of its writes and checked keys in the table of parts.
 #[repr(C)]
 #[derive(Clone, Copy, Debug, PartialEq, Eq)]
@@ -52,7 +62,7 @@ pub struct Entry {
 }
 
 mod library {
-    use super::{Answer, Entry, Member, Value};
+    use super::{Answer, Entry, Member, Previewed, Value};
 
     extern "C" {
         pub fn registry_open(words: *mut u64, words_count: usize, bytes: *const u8, bytes_count: usize, last: u64, versions: usize, size: usize) -> u64;
@@ -73,6 +83,19 @@ mod library {
             reply: *mut u8,
             reply_count: usize,
         ) -> Answer;
+        pub fn registry_preview(
+            session: usize,
+            words: *const u64,
+            words_count: usize,
+            bytes: *const u8,
+            bytes_count: usize,
+            session_words: *const u64,
+            session_words_count: usize,
+            session_bytes: *const u8,
+            session_bytes_count: usize,
+            reply: *mut u8,
+            reply_count: usize,
+        ) -> Previewed;
         pub fn registry_group(
             members: *const Member,
             members_count: usize,
@@ -130,6 +153,28 @@ pub fn request(session: usize, input: &[u8], places: &mut [u64], lent: Lent, rep
     };
     assert!(answer.used <= input.len() && answer.reply <= reply.len(), "an answer outside its buffers");
     answer
+}
+
+/// What EXEC of a session would give. The reply stands in front of `reply`; store and sessions are only read.
+pub fn preview(session: usize, words: &[u64], bytes: &[u8], session_words: &[u64], session_bytes: &[u8], reply: &mut [u8]) -> Previewed {
+    // SAFETY: each pointer and count is that of a live slice, and the mutable one does not overlap another.
+    let previewed = unsafe {
+        library::registry_preview(
+            session,
+            words.as_ptr(),
+            words.len(),
+            bytes.as_ptr(),
+            bytes.len(),
+            session_words.as_ptr(),
+            session_words.len(),
+            session_bytes.as_ptr(),
+            session_bytes.len(),
+            reply.as_mut_ptr(),
+            reply.len(),
+        )
+    };
+    assert!(previewed.reply <= reply.len(), "a preview outside its buffer");
+    previewed
 }
 
 /// Judges a group and commits its accepted members: 0, or 8 or 9. Each member gets a verdict byte.
@@ -204,6 +249,12 @@ pub fn array(words: &[impl AsRef<[u8]>]) -> Vec<u8> {
     out
 }
 
+/// The length of the first of these requests that stands at the front of `input`, in letters of either case.
+pub fn at_front(requests: &[&[u8]], input: &[u8]) -> Option<usize> {
+    let stands = |request: &&&[u8]| input.get(..request.len()).is_some_and(|front| front.eq_ignore_ascii_case(request));
+    requests.iter().find(stands).map(|request| request.len())
+}
+
 /// What is lent to a call, with an argument table and a reply buffer.
 #[derive(Clone, PartialEq)]
 pub struct Memory {
@@ -237,6 +288,25 @@ impl Memory {
         };
         request(session, input, &mut self.places, lent, &mut self.reply)
     }
+
+    pub fn preview(&mut self, session: usize) -> Previewed {
+        preview(session, &self.words, &self.bytes, &self.session_words, &self.session_bytes, &mut self.reply)
+    }
+
+    /// Becomes a copy, in the memory that it has.
+    pub fn copy(&mut self, other: &Memory) {
+        self.words.clone_from(&other.words);
+        self.bytes.clone_from(&other.bytes);
+        self.session_words.clone_from(&other.session_words);
+        self.session_bytes.clone_from(&other.session_bytes);
+        self.places.clone_from(&other.places);
+        self.reply.clone_from(&other.reply);
+    }
+
+    /// Whether store and sessions are the same, byte for byte.
+    pub fn same_lent(&self, other: &Memory) -> bool {
+        self.words == other.words && self.bytes == other.bytes && self.session_words == other.session_words && self.session_bytes == other.session_bytes
+    }
 }
 
 /// A store and sixteen sessions in memory of their own, and how long a reply may be.
@@ -267,11 +337,17 @@ impl Registry {
         }
     }
 
+    /// A longer reply buffer; whether there is one.
+    fn grow_reply(&mut self) -> bool {
+        let length = self.memory.reply.len();
+        self.memory.reply.resize((4 * length).min(self.most_reply), 0);
+        length < self.most_reply
+    }
+
     /// Answers the request at the front of `input`. Number 3 leaves all, so the call is made again with a longer reply buffer.
     pub fn request(&mut self, session: usize, input: &[u8]) -> Done<'_> {
         let mut answer = self.memory.request(session, input);
-        while answer.number == 3 && self.memory.reply.len() < self.most_reply {
-            self.memory.reply.resize((4 * self.memory.reply.len()).min(self.most_reply), 0);
+        while answer.number == 3 && self.grow_reply() {
             answer = self.memory.request(session, input);
         }
         if answer.number != 0 {
@@ -282,6 +358,20 @@ impl Registry {
         }
         let reply = &self.memory.reply[..answer.reply];
         Done::Answered { used: answer.used, reply, over: is_over(input, &self.memory.places, reply) }
+    }
+
+    /// What EXEC of a session would give, and its reply.
+    pub fn preview(&mut self, session: usize) -> (Previewed, &[u8]) {
+        let mut previewed = self.memory.preview(session);
+        while previewed.number == 3 && self.grow_reply() {
+            previewed = self.memory.preview(session);
+        }
+        (previewed, &self.memory.reply[..previewed.reply])
+    }
+
+    /// What is lent to the calls.
+    pub fn memory(&self) -> &Memory {
+        &self.memory
     }
 
     /// Clears a session as the console's own QUIT would.

@@ -1,7 +1,12 @@
-//! The lines of `frames` over the library: a session and hexadecimal in, the hexadecimal of the replies out.
-use crate::core::{Done, Registry, SESSIONS};
+//! The lines of `frames` over the library: a session and hexadecimal in, the hexadecimal of the replies out. A preview stands before each
+//! EXEC, and now and then before another request, and is held to EXEC.
+use crate::core::{at_front, Done, Memory, Registry, SESSIONS};
+use crate::previews::{Told, EXEC};
+use std::collections::BTreeMap;
 
 pub const LIMIT: usize = 4096;
+/// Of so many calls one has a preview before it, whatever it asks.
+const CALLS_OF_A_PREVIEW: u64 = 16;
 
 /// Sixteen sessions with the bytes that each has not finished.
 pub struct Frames {
@@ -9,12 +14,34 @@ pub struct Frames {
     held: Vec<Vec<u8>>,
     limit: usize,
     pub calls: u64,
+    /// Memory for copies.
+    kept: Memory,
+    /// How often a preview told each verdict, before EXEC and on a copy.
+    pub previews: BTreeMap<u64, u64>,
 }
 
 impl Frames {
     pub fn open(versions: usize, size: usize, arguments: usize, most_reply: usize, limit: usize) -> Frames {
         let registry = Registry::open(0, versions, size, arguments, most_reply).expect("capacities that fit");
-        Frames { registry, held: vec![Vec::new(); SESSIONS], limit, calls: 0 }
+        Frames { registry, held: vec![Vec::new(); SESSIONS], limit, calls: 0, kept: Memory::zeros(0, 0, 0, 0), previews: BTreeMap::new() }
+    }
+
+    /// The preview before EXEC, which is to come true; of one before another request, EXEC on a copy is the yardstick.
+    fn preview(&mut self, session: usize, input: &[u8]) -> Option<Told> {
+        let is_exec = at_front(&EXEC, input).is_some();
+        if !is_exec && self.calls % CALLS_OF_A_PREVIEW != 0 {
+            return None;
+        }
+        self.kept.copy(self.registry.memory());
+        let previewed = self.registry.preview(session).0;
+        let told = Told::new(previewed, self.registry.memory(), &self.kept);
+        *self.previews.entry(previewed.verdict).or_default() += 1;
+        if is_exec {
+            return Some(told);
+        }
+        self.kept.reply.resize(self.registry.memory().reply.len(), 0);
+        told.must_come_true_on(&mut self.kept, session);
+        None
     }
 
     /// The replies to a frame, and the mark behind them.
@@ -32,13 +59,22 @@ impl Frames {
         let mut at = 0;
         while at < held.len() {
             self.calls += 1;
-            match self.registry.request(session, &held[at..]) {
+            let told = self.preview(session, &held[at..]);
+            let before = replies.len();
+            let number = match self.registry.request(session, &held[at..]) {
                 Done::Waits => break,
-                Done::Refused(number) => return (replies, format!("!{number}")),
+                Done::Refused(number) => number,
                 Done::Answered { used, reply, over } => {
                     replies.extend_from_slice(reply);
                     at = if over { held.len() } else { at + used };
+                    0
                 }
+            };
+            if let Some(told) = told {
+                told.must_come_true(number, &replies[before..], self.registry.memory().words[2]);
+            }
+            if number != 0 {
+                return (replies, format!("!{number}"));
             }
         }
         held.drain(..at);

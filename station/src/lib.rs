@@ -3,5 +3,6 @@ pub mod core;
 pub mod frames;
 pub mod groups;
 pub mod layout;
+pub mod previews;
 pub mod random;
 pub mod server;

@@ -1,5 +1,5 @@
-//! One thread that serves consoles without blocking: each whole request is one call of the registry.
-use crate::core::{Done, Registry, SESSIONS};
+//! One thread that serves consoles without blocking: each whole request is one call of the registry, PREVIEW a preview.
+use crate::core::{at_front, Done, Registry, SESSIONS};
 use std::io::{self, ErrorKind, Read, Write};
 use std::net::{Shutdown, TcpListener, TcpStream};
 use std::time::{Duration, Instant};
@@ -10,6 +10,8 @@ const READ_AT_ONCE: usize = 65_536;
 const MOST_UNSENT: usize = 1_048_576;
 /// How long a closed console may take to read what is left for it.
 const LEAVE_WITHIN: Duration = Duration::from_secs(2);
+/// The server's own request, as an array and inline.
+const PREVIEW: [&[u8]; 3] = [b"*1\r\n$7\r\nPREVIEW\r\n", b"PREVIEW\r\n", b"PREVIEW\n"];
 
 /// What a number means to the console that met it.
 pub fn meaning(number: u64) -> &'static str {
@@ -30,6 +32,17 @@ pub fn meaning(number: u64) -> &'static str {
 /// The line that a console gets before a number closes it.
 pub fn number_line(number: u64) -> Vec<u8> {
     format!("-ERR number {number}: {}\r\n", meaning(number)).into_bytes()
+}
+
+/// The answer to PREVIEW, an array of three: the verdict, the last sequence, and what EXEC would send.
+fn preview_reply(session: usize, registry: &mut Registry) -> Vec<u8> {
+    let (told, reply) = registry.preview(session);
+    let mut out = format!("*3\r\n:{}\r\n:{}\r\n", told.verdict, told.last).into_bytes();
+    match told.number {
+        0 => out.extend_from_slice(reply),
+        number => out.extend(number_line(number)),
+    }
+    out
 }
 
 /// Bytes on their way to a console.
@@ -211,6 +224,11 @@ impl Console {
         let mut at = 0;
         let mut over = false;
         while at < self.held.len() && !over && self.to.unsent.len() < MOST_UNSENT {
+            if let Some(used) = at_front(&PREVIEW, &self.held[at..]) {
+                self.to.unsent.extend(preview_reply(session, registry));
+                at += used;
+                continue;
+            }
             match registry.request(session, &self.held[at..]) {
                 Done::Waits => break,
                 Done::Refused(number) => {

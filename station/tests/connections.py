@@ -58,6 +58,23 @@ def half_requests():
             same(f"a request cut at {cut}", receive(s, len(due)), due)
 
 
+def last_sequence():
+    with connect() as s:
+        s.sendall(b"PREVIEW\r\nQUIT\r\n")
+        return int(to_the_end(s).split(b"\r\n")[2][1:])
+
+
+def half_previews():
+    due = b"+OK\r\n+QUEUED\r\n*3\r\n:0\r\n:%d\r\n*1\r\n$-1\r\n+OK\r\n" % last_sequence()
+    for form in (b"PREVIEW\r\n", b"preview\n", b"*1\r\n$7\r\nPREVIEW\r\n"):
+        for cut in range(1, len(form)):
+            with connect() as s:
+                s.sendall(b"MULTI\r\nGET none\r\n" + form[:cut])
+                time.sleep(0.004)
+                s.sendall(form[cut:] + b"DISCARD\r\n")
+                same(f"{form} cut at {cut}", receive(s, len(due)), due)
+
+
 def waiting_console_delays_none():
     with connect() as slow, connect() as other:
         slow.sendall(b"*2\r\n$3\r\nGET\r\n$1000\r\nhalf")
@@ -104,6 +121,10 @@ def long_values():
     value = b"v" * 300_000
     with connect() as s:
         answers(s, b"*3\r\n$3\r\nSET\r\n$4\r\nlong\r\n$300000\r\n" + value + b"\r\n", b"+OK\r\n", "a value of 300,000 bytes")
+        # The first reply of this length: a longer reply buffer is needed.
+        told = b"*1\r\n$300000\r\n" + value + b"\r\n"
+        due = b"+OK\r\n+QUEUED\r\n*3\r\n:0\r\n:%d\r\n" % last_sequence() + told + told
+        answers(s, b"MULTI\r\nGET long\r\nPREVIEW\r\nEXEC\r\n", due, "a preview of 300,000 bytes, and EXEC")
         due = (b"$300000\r\n" + value + b"\r\n") * 20
         answers(s, b"GET long\r\n" * 20, due, "6,000,000 bytes of replies to a console that reads late")
 
@@ -168,6 +189,7 @@ def reset_by_the_console():
 
 
 half_requests()
+half_previews()
 waiting_console_delays_none()
 pipelining()
 long_lines()

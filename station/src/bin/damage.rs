@@ -1,8 +1,10 @@
-//! damage SEED STATES GROUPS: damaged lent states give 9 and nothing changes; groups that meet 6, 7, 8 and 255 give the verdicts of
-//! document 01 and leave the store that it says. Store, sessions, argument table, reply and verdicts are compared byte by byte.
-use station::core::{self, Answer, Member, Memory, SESSIONS, SESSION_BYTES, SESSION_WORDS};
+//! damage SEED STATES GROUPS: damaged lent states give 9 and nothing changes; previews of good states come true on a copy; groups that meet
+//! 6, 7, 8 and 255 give the verdicts of document 01 and leave the store that it says. Store, sessions, argument table, reply and verdicts are
+//! compared byte by byte.
+use station::core::{self, Answer, Member, Memory, Previewed, SESSIONS, SESSION_BYTES, SESSION_WORDS};
 use station::groups::{lent, Group, Plain, Store};
 use station::layout::{self, ARGUMENT_COUNTS, ARGUMENT_LENGTHS, FAILED, QUEUED, WATCHED, WATCH_BYTES, WATCH_LENGTHS, WATCH_SEQUENCES};
+use station::previews::Told;
 use station::random::Random;
 use std::collections::BTreeMap;
 use std::process::exit;
@@ -35,10 +37,6 @@ fn sessions_ok(state: &Memory) -> bool {
     state.words.len() > 2 && layout::sessions_ok(&state.session_words, &state.session_bytes, state.words[2])
 }
 
-fn same_lent(one: &Memory, two: &Memory) -> bool {
-    one.words == two.words && one.bytes == two.bytes && one.session_words == two.session_words && one.session_bytes == two.session_bytes
-}
-
 /// A good state with versions, watches and queues, made by requests.
 fn lived(random: &mut Random) -> Memory {
     let mut state = open(random);
@@ -60,6 +58,10 @@ fn lived(random: &mut Random) -> Memory {
             send(&mut state, session, &full);
         } else if random.once_in(2) {
             send(&mut state, session, &[b"WATCH", KEYS[random.below(5)], KEYS[5 + random.below(5)], KEYS[random.below(10)]]);
+        }
+        // a write behind the watches: some of them meet a conflict
+        if random.once_in(8) {
+            send(&mut state, session, &[b"SET", *random.pick(&KEYS), b"v"]);
         }
         if random.once_in(2) {
             send(&mut state, session, &[b"MULTI"]);
@@ -246,12 +248,37 @@ fn refused_request(state: &Memory, what: &str, random: &mut Random) {
     if answer != (Answer { number, used: 0, reply: 0 }) {
         fail(what, &format!("session {session}: {answer:?} in place of number {number}"));
     }
-    if !same_lent(&after, state) || after.places != state.places {
+    if !after.same_lent(state) || after.places != state.places {
         fail(what, "lent memory changed");
     }
     if after.reply.iter().any(|b| *b != 0) {
         fail(what, "the reply buffer is not zero");
     }
+}
+
+/// A preview on a damaged state: the number, no verdict, the reply buffer zero, all else as it was.
+fn refused_preview(state: &Memory, what: &str, random: &mut Random) {
+    let session = if random.once_in(8) { 16 + random.below(3) } else { random.below(SESSIONS) };
+    let mut after = state.clone();
+    let previewed = after.preview(session);
+    let number = if session < SESSIONS { 9 } else { 1 };
+    if previewed != (Previewed { number, verdict: 255, reply: 0, last: 0 }) {
+        fail(what, &format!("session {session}: {previewed:?} in place of number {number}"));
+    }
+    if !after.same_lent(state) || after.reply.iter().any(|b| *b != 0) {
+        fail(what, "a preview changed lent memory, or its reply buffer is not zero");
+    }
+}
+
+/// A preview on a good state, with a reply buffer of any length: EXEC on a copy gives what it tells.
+fn previewed(state: &mut Memory, random: &mut Random) -> Told {
+    let session = random.below(SESSIONS);
+    state.reply.truncate(if random.once_in(2) { 4096 } else { random.below(80) });
+    state.reply.fill(170);
+    let mut kept = state.clone();
+    let told = Told::new(state.preview(session), state, &kept);
+    told.must_come_true_on(&mut kept, session);
+    told
 }
 
 /// The calls that are lent the store alone.
@@ -260,7 +287,7 @@ fn refused_store(state: &Memory, what: &str) {
     let mut after = state.clone();
     let mut verdicts = [170u8; 3];
     let number = core::group(&group.members, &group.parts, &group.data, &mut verdicts, &mut after.words, &mut after.bytes);
-    if number != 9 || verdicts != [170; 3] || !same_lent(&after, state) {
+    if number != 9 || verdicts != [170; 3] || !after.same_lent(state) {
         fail(what, &format!("a group call returned {number}, verdicts {verdicts:?}"));
     }
     if core::read(&state.words, &state.bytes, b"a") != Err(9) || core::entry(&state.words, &state.bytes, 0).number != 9 {
@@ -290,6 +317,7 @@ fn damage_states(random: &mut Random, count: usize) {
             continue;
         }
         refused_request(&state, what, random);
+        refused_preview(&state, what, random);
         if !store_ok {
             refused_store(&state, what);
         }
@@ -304,13 +332,14 @@ fn damage_states(random: &mut Random, count: usize) {
     println!("damage: {made} damaged states of {} kinds, each refused and left as it was", done.len());
 }
 
-/// Each harmless change in turn: PING is answered.
+/// Each harmless change in turn: PING is answered, and a preview comes true.
 fn harmless_states(random: &mut Random, count: usize) {
+    let mut met: BTreeMap<(u64, u64), usize> = BTreeMap::new();
     let mut good = lived(random);
     let mut made = 0;
     let mut tries = 0;
     while made < count {
-        if tries % 500 == 0 {
+        if tries % 20 == 0 {
             good = lived(random);
         }
         let (what, change) = HARMLESS[tries % HARMLESS.len()];
@@ -323,9 +352,15 @@ fn harmless_states(random: &mut Random, count: usize) {
         if answer.number != 0 {
             fail(what, &format!("number {}", answer.number));
         }
+        let told = previewed(&mut state, random).previewed;
+        *met.entry((told.number, told.verdict)).or_default() += 1;
         made += 1;
     }
     println!("damage: {made} states with sequences at the last, or above it behind the watched keys, none refused");
+    if !met.keys().eq(&[(0, 0), (0, 1), (0, 255), (3, 255), (6, 255)]) {
+        fail("previews", &format!("not each outcome was met: {met:?}"));
+    }
+    println!("damage: previews of these states came true, by number and verdict: {met:?}");
 }
 
 /// Any word set to any value: 9 exactly where the layout says so.
@@ -347,12 +382,17 @@ fn random_words(random: &mut Random, count: usize) {
             state.session_words[session + first + random.below(4)] = value;
         }
         let bad = !(store_ok(&state) && sessions_ok(&state));
+        if bad {
+            refused_preview(&state, "a word of any value", random);
+        } else {
+            previewed(&mut state.clone(), random);
+        }
         let mut after = state.clone();
         let answer = after.request(random.below(SESSIONS), *random.pick(&REQUESTS));
         if bad != (answer.number == 9) {
             fail("a word of any value", &format!("number {} where 9 is {bad}", answer.number));
         }
-        if answer.number != 0 && answer.number != 4 && !same_lent(&after, &state) {
+        if answer.number != 0 && answer.number != 4 && !after.same_lent(&state) {
             fail("a word of any value", "a number changed lent memory");
         }
         if answer.number == 0 && !(store_ok(&after) && sessions_ok(&after)) {

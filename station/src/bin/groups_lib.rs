@@ -1,7 +1,17 @@
-//! Group scripts over the library, for the comparisons of reference/; their form stands in reference/rust/drivers/groups_rust.rs.
-use station::core;
+//! Group scripts over the library, for the comparisons of reference/; their form stands in reference/rust/drivers/groups_rust.rs. Three
+//! instructions more:
+//!
+//!   request SESSION ROOM BYTES   one request call with so many reply bytes; answered by number, bytes used and reply
+//!   preview SESSION ROOM         a preview; answered by number, verdict, last sequence and reply
+//!   sequence SESSION NUMBER      sets the sequence of the session's first watched key in the lent words
+//!
+//! BYTES and a reply are lower-case hexadecimal, no reply is `-`. After a preview store and sessions must be as they were, byte for byte, and
+//! behind a reply the buffer must be zero; otherwise the program fails.
+use station::core::{self, Memory, SESSION_WORDS};
+use station::frames::hex;
 use station::groups::{lent, Plain};
-use station::layout::versions;
+use station::layout::{versions, WATCH_SEQUENCES};
+use station::previews::Told;
 use std::io::{self, BufRead, BufWriter, Write};
 
 fn bytes(text: &str) -> Vec<u8> {
@@ -14,7 +24,11 @@ fn text(bytes: &[u8]) -> String {
     if 32 < bytes.len() && bytes.iter().all(|b| *b == bytes[0]) {
         return format!("{:02x}*{}", bytes[0], bytes.len());
     }
-    station::frames::hex(bytes)
+    hex(bytes)
+}
+
+fn shown(reply: &[u8]) -> String {
+    if reply.is_empty() { "-".to_string() } else { hex(reply) }
 }
 
 fn member(words: &[&str]) -> Plain {
@@ -34,23 +48,38 @@ fn member(words: &[&str]) -> Plain {
     made
 }
 
-/// A store in lent memory.
-struct Store {
-    words: Vec<u64>,
-    bytes: Vec<u8>,
-}
+/// A store and sixteen sessions in lent memory.
+struct Calls(Memory);
 
-impl Store {
-    fn open(last: u64, versions: usize, size: usize) -> Store {
-        let mut store = Store { words: vec![0; 5 + 4 * versions], bytes: vec![0; size] };
-        assert_eq!(core::open(&mut store.words, &store.bytes, last, versions, size), 0);
-        store
+impl Calls {
+    fn open(last: u64, versions: usize, size: usize) -> Calls {
+        let mut memory = Memory::zeros(5 + 4 * versions, size, 64, 0);
+        assert_eq!(core::open(&mut memory.words, &memory.bytes, last, versions, size), 0);
+        Calls(memory)
+    }
+
+    /// A reply buffer of so many bytes, none of them zero.
+    fn lend_reply(&mut self, room: usize) {
+        self.0.reply = vec![170; room];
+    }
+
+    fn request(&mut self, session: usize, input: &[u8]) -> String {
+        let answer = self.0.request(session, input);
+        let (reply, behind) = self.0.reply.split_at(answer.reply);
+        assert!(behind.iter().all(|b| *b == 0), "bytes behind a reply");
+        format!("{} {} {}", answer.number, answer.used, shown(reply))
+    }
+
+    fn preview(&mut self, session: usize) -> String {
+        let kept = self.0.clone();
+        let Told { previewed, reply } = Told::new(self.0.preview(session), &self.0, &kept);
+        format!("{} {} {} {}", previewed.number, previewed.verdict, previewed.last, shown(&reply))
     }
 
     fn group(&mut self, members: &[Plain]) -> String {
         let group = lent(members);
         let mut verdicts = vec![0; members.len()];
-        let number = core::group(&group.members, &group.parts, &group.data, &mut verdicts, &mut self.words, &mut self.bytes);
+        let number = core::group(&group.members, &group.parts, &group.data, &mut verdicts, &mut self.0.words, &mut self.0.bytes);
         match (number, verdicts.is_empty()) {
             (0, true) => "none".to_string(),
             (0, false) => verdicts.iter().map(u8::to_string).collect::<Vec<_>>().join(" "),
@@ -59,8 +88,8 @@ impl Store {
     }
 
     fn show(&self) -> String {
-        let mut shown = self.words[2].to_string();
-        for (key, seq, value) in versions(&self.words, &self.bytes).expect("a good store") {
+        let mut shown = self.0.words[2].to_string();
+        for (key, seq, value) in versions(&self.0.words, &self.0.bytes).expect("a good store") {
             shown += &format!(" {}@{seq}", text(&key));
             if let Some(value) = value {
                 shown += &format!("={}", text(&value));
@@ -71,21 +100,30 @@ impl Store {
 }
 
 fn main() -> io::Result<()> {
-    let mut store = Store::open(0, 1024, 32_768);
+    let mut calls = Calls::open(0, 1024, 32_768);
     let mut members = Vec::new();
     let mut out = BufWriter::new(io::stdout().lock());
     for line in io::stdin().lock().lines() {
         let line = line?;
         let words: Vec<&str> = line.split(' ').collect();
+        let count = |i: usize| words[i].parse().expect("a count");
         match words[0] {
             "open" => {
-                let count = |i: usize| words[i].parse().expect("a capacity");
-                store = Store::open(words[1].parse().expect("a last sequence"), count(2), count(3));
+                calls = Calls::open(words[1].parse().expect("a last sequence"), count(2), count(3));
                 members.clear();
             }
+            "request" => {
+                calls.lend_reply(count(2));
+                writeln!(out, "{}", calls.request(count(1), &bytes(words[3])))?;
+            }
+            "preview" => {
+                calls.lend_reply(count(2));
+                writeln!(out, "{}", calls.preview(count(1)))?;
+            }
+            "sequence" => calls.0.session_words[count(1) * SESSION_WORDS + WATCH_SEQUENCES] = words[2].parse().expect("a sequence"),
             "member" => members.push(member(&words[1..])),
-            "group" => writeln!(out, "{}", store.group(&std::mem::take(&mut members)))?,
-            "versions" => writeln!(out, "{}", store.show())?,
+            "group" => writeln!(out, "{}", calls.group(&std::mem::take(&mut members)))?,
+            "versions" => writeln!(out, "{}", calls.show())?,
             other => panic!("no such instruction: {other}"),
         }
     }

@@ -2,11 +2,12 @@
 //! until so many request calls were made. Prints the first line that differs and fails; a number counts as a difference.
 //! The Rust is the yardstick of an EXEC only where nothing was written between its session's first WATCH in force and the EXEC, and of a
 //! command inside MULTI only where its argument count is right and it is no SET with options. Texts that are a number to the Rust alone are
-//! not sent.
+//! not sent. Each EXEC has a preview before it, which must come true; so has one of sixteen other calls, by EXEC on a copy.
 use station::core;
 use station::frames::{hex, Frames, LIMIT};
 use station::layout::{may_queue, QUEUEABLE};
 use station::random::Random;
+use std::collections::BTreeMap;
 use std::io::{Read, Write};
 use std::process::{exit, Command, Stdio};
 
@@ -212,8 +213,8 @@ fn show_table(frames: &mut Frames, input: &mut Vec<String>, answers: &mut Vec<St
     assert_eq!(frames.read(b"no such key"), None);
 }
 
-/// One run: the lines, the library's answers, the calls, and the EXECs with a watch in force.
-fn run(seed: u64) -> (Vec<String>, Vec<String>, u64, u64) {
+/// One run: the lines, the library's answers, the frames with their counts, and the EXECs with a watch in force.
+fn run(seed: u64) -> (Vec<String>, Vec<String>, Frames, u64) {
     let mut random = Random::new(seed);
     let sessions = *random.pick(&[1, 2, 2, 3, 4, 16]);
     let mut source = Source { random, sessions, state: [Session::default(); 16], watched: 0 };
@@ -227,7 +228,7 @@ fn run(seed: u64) -> (Vec<String>, Vec<String>, u64, u64) {
         }
     }
     show_table(&mut frames, &mut input, &mut answers);
-    (input, answers, frames.calls, source.watched)
+    (input, answers, frames, source.watched)
 }
 
 /// What the reference answers to the lines.
@@ -251,8 +252,9 @@ fn main() {
     };
     let (mut seed, calls): (u64, u64) = (seed.parse().expect("a seed"), calls.parse().expect("a count"));
     let (mut made, mut lines, mut runs, mut watched) = (0, 0, 0, 0);
+    let mut previews: BTreeMap<u64, u64> = BTreeMap::new();
     while made < calls {
-        let (input, answers, count, watched_execs) = run(seed);
+        let (input, answers, frames, watched_execs) = run(seed);
         let expected = reference(program, &input);
         if let Some(i) = (0..input.len()).find(|&i| expected.get(i) != Some(&answers[i])) {
             println!("seed {seed}, line {}: {}\nreference {:?}\nlibrary   {:?}", i + 1, input[i], expected.get(i), answers[i]);
@@ -262,11 +264,14 @@ fn main() {
             println!("seed {seed}: {} lines of the reference, {} of the library", expected.len(), answers.len());
             exit(1)
         }
-        made += count;
+        made += frames.calls;
+        frames.previews.iter().for_each(|(verdict, count)| *previews.entry(*verdict).or_default() += count);
         lines += input.len();
         watched += watched_execs;
         runs += 1;
         seed += 1;
     }
     println!("lockstep: {made} calls, {lines} lines, {runs} runs, {watched} EXECs with a watch in force, no difference");
+    println!("lockstep: previews that came true, by verdict: {previews:?}");
+    assert!(previews.keys().eq(&[0, 1, 255]), "not every verdict was told");
 }
