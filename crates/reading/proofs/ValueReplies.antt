@@ -8,10 +8,11 @@ use lib.ListN.{length}
 use Rattle.key.specs.Bytes.{Bytes}
 use Rattle.key.specs.Keys.{Key}
 use Rattle.writing.specs.declared.Put.{Put}
+use Rattle.writing.specs.declared.Put.the-variants.{Full}
 use Rattle.writing.specs.Puts.{Puts, Adds}
 use Rattle.writing.proofs.Puts.{same-added}
 use Rattle.resp.specs.Reply.{BulkString, Nil, head, encode, array, bulkOr}
-use Rattle.encode.proofs.Replies.{Listed, listed-none, listed-more, listed-all}
+use Rattle.encode.proofs.Replies.{Listed, listed-none, listed-more, listed-full, listed-all}
 use Rattle.memtable.specs.Table.{Reader}
 use Rattle.memtable.specs.Layout.{valuePart}
 use Rattle.batch.specs.Members.{writeAt}
@@ -56,9 +57,14 @@ module _ {r : Reader} {places : List ℕ} {input : Bytes} {from to i : ℕ} {put
       ∙ ap (λ (x : Key). bulkOr (r x) ∷ valueReplies r (argumentsAt (i + 1) (to - (i + 1)) places input)) (sym k-is) in
       record { within = omega arith; listed = listed-more (bulkOr (r k)) (rw (← e) (g .listed)) a }
 
-  pub values-all : {start : Bytes} → to ≤ i → Puts (head 42 (to - from)) start put entry → Puts (encode (array (valueReplies r (argumentsAt from (to - from) places input)))) start next mid
-  values-all h p =
-      let none-left : valueReplies r (argumentsAt i (to - i) places input) ≡ [] = ap (valueReplies r) (arguments-end places input h) in
-      let count : to - from ≡ length (valueReplies r (argumentsAt from (to - from) places input)) =
-      sym (replies-long r (argumentsAt from (to - from) places input) ∙ arguments-count from (to - from) places input) in
-      listed-all (valueReplies r (argumentsAt from (to - from) places input)) count p (rw (← none-left) (g .listed))
+  counted : to - from ≡ length (valueReplies r (argumentsAt from (to - from) places input))
+  counted = sym (replies-long r (argumentsAt from (to - from) places input) ∙ arguments-count from (to - from) places input)
+
+  module _ {start : Bytes} (p : Puts (head 42 (to - from)) start put entry) where
+    pub values-full : next ≡ Full → Puts (encode (array (valueReplies r (argumentsAt from (to - from) places input)))) start Full mid
+    values-full told = listed-full (valueReplies r (argumentsAt from (to - from) places input)) counted p (valueReplies r (argumentsAt i (to - i) places input)) (g .listed) told
+
+    pub values-all : to ≤ i → Puts (encode (array (valueReplies r (argumentsAt from (to - from) places input)))) start next mid
+    values-all h =
+        let none-left : valueReplies r (argumentsAt i (to - i) places input) ≡ [] = ap (valueReplies r) (arguments-end places input h) in
+        listed-all (valueReplies r (argumentsAt from (to - from) places input)) counted p (rw (← none-left) (g .listed))

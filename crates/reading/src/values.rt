@@ -37,7 +37,7 @@ pub fn then_value(
     }
 }
 
-// Writes the array of the values of the keys from place `from` up to `to`.
+// Writes the array of the values of the keys from place `from` up to `to`, up to one that does not fit.
 fn put_values(
     out: &mut [u8],
     own: &[u64],
@@ -60,6 +60,9 @@ fn put_values(
     let mut put = reply::put_head(out, b'*', (to - from) as u64);
     let mut i = from;
     while i < to {
+        let Put::Wrote(_) = put else {
+            return Put::Full;
+        };
         let name = parts::key_part(places, input, 2 * i);
         put = then_value(out, put, own, n, data, words, bytes, seq, name);
         i += 1;

@@ -4,7 +4,7 @@ use native.Mathlib.Omega.{arith}
 use Rattle.encode.proofs.Replies.{listed-length}
 use Rattle.own.specs.Own.{readerOf}
 use Rattle.server.proofs.PlaceLaws.{part-in}
-use Rattle.reading.proofs.ValueReplies.{ValuesFrom, values-none, values-more, values-all}
+use Rattle.reading.proofs.ValueReplies.{ValuesFrom, values-none, values-more, values-full, values-all}
 use borrow.Author.Needs.{needs}
 use Rattle.reading.proofs.values.put_values.Statement.{statement}
 use Rattle.reading.proofs.values.put_values.Tie as tie
@@ -24,6 +24,18 @@ put-head-requires c κs = search needs
 loop-holds : tie.Need-loop-holds Inv-loop μ-loop
 loop-holds c = search values-none
 
+enum-told : tie.Need-enum-told Inv-loop μ-loop
+enum-told c = search needs
+
+enum-told-2 : tie.Need-enum-told-2 Inv-loop μ-loop
+enum-told-2 c = search needs
+
+same-length : tie.Need-same-length Inv-loop μ-loop
+same-length c = search listed-length
+
+returns : tie.Need-returns Inv-loop μ-loop
+returns c = search values-full
+
 mul-key-part : tie.Need-mul-key-part Inv-loop μ-loop
 mul-key-part c = search needs
 
@@ -40,13 +52,13 @@ loop-less : tie.Need-loop-less Inv-loop μ-loop
 loop-less c = search needs
 
 loop-again : tie.Need-loop-again Inv-loop μ-loop
-loop-again c = values-more (c .before .before .before .before .before .before .loop .inv) _ (omega arith) (c .before .before .before .before .key-part .ensures) (c .before .before .then-value .ensures)
+loop-again c = values-more (c .before .before .before .before .before .before .before .before .loop .inv) _ (omega arith) (c .before .before .before .before .key-part .ensures) (c .before .before .then-value .ensures)
 
-same-length : tie.Need-same-length Inv-loop μ-loop
-same-length c = search listed-length
+same-length-2 : tie.Need-same-length-2 Inv-loop μ-loop
+same-length-2 c = search listed-length
 
-returns : tie.Need-returns Inv-loop μ-loop
-returns c = search values-all
+returns-2 : tie.Need-returns-2 Inv-loop μ-loop
+returns-2 c = search values-all
 
 pub put-values-spec : {M : Type 1} → statement M
 put-values-spec =
@@ -57,11 +69,15 @@ put-values-spec =
     sub-put-head
     put-head-requires
     loop-holds
+    enum-told
+    enum-told-2
+    same-length
+    returns
     mul-key-part
     key-part-requires
     then-value-requires
     add-i
     loop-less
     loop-again
-    same-length
-    returns)
+    same-length-2
+    returns-2)
