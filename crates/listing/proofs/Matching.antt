@@ -8,10 +8,11 @@ use lib.ListN.{length, take, drop, length-map, length-take}
 use lib.Seq.{take-all, take-nil, drop-nil, length-take-le}
 use Rattle.key.specs.Bytes.{Bytes}
 use Rattle.writing.specs.declared.Put.{Put}
+use Rattle.writing.specs.declared.Put.the-variants.{Full}
 use Rattle.writing.specs.Puts.{Puts, Adds}
 use Rattle.writing.proofs.Puts.{same-text}
 use Rattle.resp.specs.Reply.{Reply, BulkString, array, head, encode}
-use Rattle.encode.proofs.Replies.{Listed, listed-none, listed-more, listed-all}
+use Rattle.encode.proofs.Replies.{Listed, listed-none, listed-more, listed-full, listed-all}
 use Rattle.memtable.specs.declared.Found.{Found}
 use Rattle.memtable.specs.declared.Found.the-variants.{At, Nothing}
 use Rattle.memtable.specs.Table.{Value, Entry, Table}
@@ -139,12 +140,16 @@ module _ {w b p : List ℕ} {from count i left : ℕ} {put next : Put} {entry mi
     writing-miss f = record { listed = relist (ap (λ (l : Table). map keyReply (take left l)) (found-there f)) (k .listed) }
 
   module _ {start : Bytes} (fits : count ≤ length (matching p (rest w b from))) (s : Puts (head 42 count) start put entry) where
+    counted : count ≡ length (map keyReply (take count (matching p (rest w b from))))
+    counted = sym (length-map (take count (matching p (rest w b from))) keyReply ∙ length-take-le count (matching p (rest w b from)) fits)
+
+    pub writing-full : next ≡ Full → Puts (encode (keysReply (take count (matching p (rest w b from))))) start Full mid
+    unfolding keysReply
+    writing-full told = listed-full (map keyReply (take count (matching p (rest w b from)))) counted s (map keyReply (take left (matching p (rest w b i)))) (k .listed) told
+
     written-out : take left (matching p (rest w b i)) ≡ [] → Puts (encode (keysReply (take count (matching p (rest w b from))))) start next mid
     unfolding keysReply
-    written-out over =
-        listed-all (map keyReply (take count (matching p (rest w b from))))
-        (sym (length-map (take count (matching p (rest w b from))) keyReply ∙ length-take-le count (matching p (rest w b from)) fits)) s
-        (relist (ap (map keyReply) over) (k .listed))
+    written-out over = listed-all (map keyReply (take count (matching p (rest w b from)))) counted s (relist (ap (map keyReply) over) (k .listed))
 
     pub writing-over : {o : Found} → o ≡ nextLive w b i (countWord w - i) → o ≡ Nothing → Puts (encode (keysReply (take count (matching p (rest w b from))))) start next mid
     writing-over is e = written-out (ap (take left) (ap (matching p) (rest-none w b i is e) ∙ matching-nothing p) ∙ take-nil left)

@@ -8,8 +8,8 @@ use Prim.Native.Nat.{ℕ, zero, suc, _+_, _-_, _*_, _≤_, _<_}
 use native.Mathlib.Nat.{add-zero, sub-zero}
 use native.Mathlib.Decide.{decLe}
 use native.Mathlib.Omega.{arith}
-use lib.Dec.{ltb}
-use lib.ListN.{length, take, length-take}
+use lib.Dec.{leb, ltb}
+use lib.ListN.{length, take, drop, replicate, length-take, length-replicate}
 use lib.Seq.{take-all, take-nil, take-take, length-take-le}
 use Rattle.key.specs.declared.Order.{Order}
 use Rattle.key.specs.declared.Order.the-variants.{Less, Equal, Greater}
@@ -18,10 +18,11 @@ use Rattle.key.specs.Keys.{Key, compareKeys, orderOfVersions, orderBy, thenBy, 
 use Rattle.key.proofs.Bytes.{and-left, and-right}
 use Rattle.key.proofs.Keys.{Precedes, precedes, less-is, compare-trans}
 use Rattle.writing.specs.declared.Put.{Put}
-use Rattle.writing.specs.Puts.{Puts, Adds}
-use Rattle.writing.proofs.Puts.{same-text, follows-more}
+use Rattle.writing.specs.declared.Put.the-variants.{Wrote, Full}
+use Rattle.writing.specs.Puts.{Puts, Adds, answeredBehind, placedBehind}
+use Rattle.writing.proofs.Puts.{same-text, then-adds, follows-more}
 use Rattle.resp.specs.Reply.{Reply, BulkString, array, items, head, encode, encodeAll}
-use Rattle.encode.proofs.Replies.{Listed, listed-none, listed-all}
+use Rattle.encode.proofs.Replies.{Listed, listed-none, listed-full, listed-all}
 use Rattle.memtable.specs.declared.Found.{Found}
 use Rattle.memtable.specs.declared.Found.the-variants.{At, Nothing}
 use Rattle.memtable.specs.Table.{Value, Entry, Table}
@@ -164,7 +165,26 @@ module _ {w b end : List ℕ} {from limit i count : ℕ} (k : Passing w b end fr
 pub range-fits : (w b end : List ℕ) (from limit : ℕ) {count : ℕ} → count ≡ length (take limit (below end (rest w b from))) → count ≤ length (rest w b from)
 range-fits w b end from limit c = omega (arith, length-take limit (below end (rest w b from)), below-few end (rest w b from))
 
--- WRITING keys and values in turn
+-- WRITING keys and values in turn. A key that does not fit has left zeros, and its value does not fit either
+module _ {a entry mid : Bytes} {put next : Put} (p : Adds a put entry next mid) (told : next ≡ Full) where
+  zeros : mid ≡ replicate (length entry) 0
+  unfolding answeredBehind placedBehind
+  zeros = go put (sym told ∙ p .answer) (p .buffer)
+    where
+      decide : (n : ℕ) (t : Bool) → Full ≡ cond t (Wrote (n + length a)) Full → mid ≡ cond t (take n entry ++ (a ++ drop (n + length a) entry)) (replicate (length entry) 0) → mid ≡ replicate (length entry) 0
+      decide n true e is = let z : _≡_ {A = ℕ} 0 1 = cc in absurd (omega arith)
+      decide n false e is = is
+
+      go : (u : Put) → Full ≡ answeredBehind a u entry → mid ≡ placedBehind a u entry → mid ≡ replicate (length entry) 0
+      go (Wrote n) e is = decide n (leb (n + length a) (length entry)) e is
+      go Full e is = is
+
+  pub pair-full : (b : Bytes) → Adds (a ++ b) put entry Full mid
+  unfolding answeredBehind placedBehind
+  pair-full b =
+      let kept : length mid ≡ length entry = ap length zeros ∙ length-replicate (length entry) 0 in
+      then-adds p (record { answer = rw told refl; buffer = rw told (zeros ∙ ap (λ (k : ℕ). replicate k 0) (sym kept)) })
+
 length-pairs : (t : Table) → length (pairReplies t) ≡ 2 * length t
 unfolding pairReplies
 length-pairs [] = refl
@@ -202,12 +222,16 @@ module _ {w b : List ℕ} {from count i left : ℕ} {put next : Put} {entry mid 
       }
 
   module _ {start : Bytes} (fits : count ≤ length (rest w b from)) (s : Puts (head 42 (2 * count)) start put entry) where
+    counted : 2 * count ≡ length (pairReplies (take count (rest w b from)))
+    counted = sym (length-pairs (take count (rest w b from)) ∙ ap (λ (l : ℕ). 2 * l) (length-take-le count (rest w b from) fits))
+
+    pub pairing-full : next ≡ Full → Puts (encode (pairsReply (take count (rest w b from)))) start Full mid
+    unfolding pairsReply
+    pairing-full told = listed-full (pairReplies (take count (rest w b from))) counted s (pairReplies (take left (rest w b i))) (k .listed) told
+
     paired : take left (rest w b i) ≡ [] → Puts (encode (pairsReply (take count (rest w b from)))) start next mid
     unfolding pairsReply pairReplies
-    paired over =
-        listed-all (pairReplies (take count (rest w b from)))
-        (sym (length-pairs (take count (rest w b from)) ∙ ap (λ (l : ℕ). 2 * l) (length-take-le count (rest w b from) fits))) s
-        (relist (ap pairReplies over) (k .listed))
+    paired over = listed-all (pairReplies (take count (rest w b from))) counted s (relist (ap pairReplies over) (k .listed))
 
     pub pairing-over : {o : Found} → o ≡ nextLive w b i (countWord w - i) → o ≡ Nothing → Puts (encode (pairsReply (take count (rest w b from)))) start next mid
     pairing-over is e = paired (ap (take left) (rest-none w b i is e) ∙ take-nil left)

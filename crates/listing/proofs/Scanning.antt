@@ -12,8 +12,9 @@ use borrow.Author.Tests.{lt-ltb, le-ltb}
 use Rattle.key.specs.Bytes.{Bytes}
 use Rattle.number.specs.Decimal.{digits}
 use Rattle.writing.specs.declared.Put.{Put}
+use Rattle.writing.specs.declared.Put.the-variants.{Full}
 use Rattle.writing.specs.Puts.{Puts, Adds}
-use Rattle.writing.proofs.Puts.{then-puts, same-text}
+use Rattle.writing.proofs.Puts.{then-puts, full-longer, same-text}
 use Rattle.resp.specs.Reply.{BulkString, array, items, countItems, head, encode, encodeAll}
 use Rattle.memtable.specs.declared.Found.{Found}
 use Rattle.memtable.specs.declared.Found.the-variants.{At, Nothing}
@@ -95,13 +96,18 @@ module _ (w b p : List ℕ) (from most : ℕ) {at matched next follows : ℕ} (v
   unfolding matching
   listed-is = seen-keys seen ∙ ap (λ (t : Table). keep (glob p) (take most t)) (skipped ∙ ap (drop from) (rest-all w b v))
 
-  pub scan-answer : {l0 l1 l2 l3 : Bytes} {u1 u2 u3 : Put} → Puts (head 42 2) l0 u1 l1 → Adds (encode (BulkString (digits follows))) u1 l1 u2 l2
-      → Adds (encode (keysReply (take matched (matching p (rest w b at))))) u2 l2 u3 l3
-      → Puts (encode (answerListing (table (versionsIn w b)) (SCAN from p most))) l0 u3 l3
+  text-is : encode (answerListing (table (versionsIn w b)) (SCAN from p most))
+      ≡ (head 42 2 ++ encode (BulkString (digits follows))) ++ encode (keysReply (take matched (matching p (rest w b at))))
   unfolding answerListing scanned encode encodeAll items countItems keysReply
-  scan-answer x y z =
-      same-text
-      ((λ i. head 42 2 ++ (encode (BulkString (digits (sym follows-is i))) ++ (encode (array (map keyReply (sym listed-is i))) ++ [])))
+  text-is =
+      (λ i. head 42 2 ++ (encode (BulkString (digits (sym follows-is i))) ++ (encode (array (map keyReply (sym listed-is i))) ++ [])))
       ∙ ap (λ (l : Bytes). head 42 2 ++ (encode (BulkString (digits follows)) ++ l)) (append-nil (encode (array (map keyReply (take matched (matching p (rest w b at)))))))
-      ∙ sym (append-assoc (head 42 2) (encode (BulkString (digits follows))) (encode (array (map keyReply (take matched (matching p (rest w b at))))))))
-      (then-puts (then-puts x y) z)
+      ∙ sym (append-assoc (head 42 2) (encode (BulkString (digits follows))) (encode (array (map keyReply (take matched (matching p (rest w b at)))))))
+
+  module _ {l0 l1 l2 : Bytes} {u1 u2 : Put} (x : Puts (head 42 2) l0 u1 l1) (y : Adds (encode (BulkString (digits follows))) u1 l1 u2 l2) where
+    pub scan-full : u2 ≡ Full → Puts (encode (answerListing (table (versionsIn w b)) (SCAN from p most))) l0 Full l2
+    scan-full told = full-longer (encode (keysReply (take matched (matching p (rest w b at))))) text-is (then-puts x y) told
+
+    pub scan-answer : {l3 : Bytes} {u3 : Put} → Adds (encode (keysReply (take matched (matching p (rest w b at))))) u2 l2 u3 l3
+        → Puts (encode (answerListing (table (versionsIn w b)) (SCAN from p most))) l0 u3 l3
+    scan-answer z = same-text text-is (then-puts (then-puts x y) z)

@@ -73,7 +73,7 @@ pub fn count_matches(
     Seen { matched, next: i }
 }
 
-// Writes the array of the first `count` matching keys from `from` on.
+// Writes the array of the first `count` matching keys from `from` on, up to one that does not fit.
 pub fn put_matches(
     out: &mut [u8],
     words: &[u64],
@@ -92,6 +92,9 @@ pub fn put_matches(
     let mut i = from;
     let mut left = count;
     while 0 < left {
+        let Put::Wrote(_) = put else {
+            return Put::Full;
+        };
         let found = live::next_live(words, bytes, i);
         match found {
             Found::Nothing => return put,

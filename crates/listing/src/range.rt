@@ -59,10 +59,13 @@ fn then_pair(out: &mut [u8], put: Put, name: &[u8], value: &[u8]) -> Put
     ensures { λ r. ⌜ Adds (encode (BulkString (now (name .entry))) ++ encode (BulkString (now (value .entry)))) put (now (out .entry)) r (now (out .exit)) ⌝ }
 {
     let line = items::then_bulk(out, put, name);
+    let Put::Wrote(_) = line else {
+        return Put::Full;
+    };
     items::then_bulk(out, line, value)
 }
 
-// Writes the array of `count` entries from `from` on, keys and values in turn.
+// Writes the array of `count` entries from `from` on, keys and values in turn, up to one that does not fit.
 fn put_pairs(out: &mut [u8], words: &[u64], bytes: &[u8], from: usize, count: u64) -> Put
     requires { ⌜ Valid (now words) (now bytes) ⌝ }
     requires { ⌜ count ≤ length (rest (now words) (now bytes) from) ⌝ }
@@ -72,6 +75,9 @@ fn put_pairs(out: &mut [u8], words: &[u64], bytes: &[u8], from: usize, count: u6
     let mut i = from;
     let mut left = count;
     while 0 < left {
+        let Put::Wrote(_) = put else {
+            return Put::Full;
+        };
         let found = live::next_live(words, bytes, i);
         match found {
             Found::Nothing => return put,

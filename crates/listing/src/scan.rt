@@ -88,5 +88,8 @@ pub fn put_scan(
     let follows = cursor(words, bytes, seen.next, from, most);
     let head = reply::put_head(out, b'*', 2);
     let line = items::then_bulk_digits(out, head, follows);
+    let Put::Wrote(_) = line else {
+        return Put::Full;
+    };
     then_matches(out, line, words, bytes, pattern, last, at, seen.matched)
 }

@@ -2,7 +2,7 @@
 use Rattle.encode.proofs.Replies.{listed-length}
 use Rattle.listing.proofs.Ranging.{count-few}
 use native.Mathlib.Omega.{arith}
-use Rattle.listing.proofs.Ranging.{Pairing, pairing-none, pairing-more, pairing-over, pairing-end}
+use Rattle.listing.proofs.Ranging.{Pairing, pairing-none, pairing-more, pairing-full, pairing-over, pairing-end}
 use Rattle.memtable.proofs.Walk.{found-row, found-below}
 use borrow.Author.Needs.{needs}
 use Rattle.listing.proofs.range.put_pairs.Statement.{statement}
@@ -23,17 +23,29 @@ put-head-requires c κs = search needs
 loop-holds : tie.Need-loop-holds Inv-loop μ-loop
 loop-holds c = pairing-none _ _ _ _ _ _
 
-next-live-requires : tie.Need-next-live-requires Inv-loop μ-loop
-next-live-requires c κs = search needs
-
 enum-told : tie.Need-enum-told Inv-loop μ-loop
 enum-told c = search needs
+
+enum-told-2 : tie.Need-enum-told-2 Inv-loop μ-loop
+enum-told-2 c = search needs
 
 same-length : tie.Need-same-length Inv-loop μ-loop
 same-length c = search listed-length
 
 returns : tie.Need-returns Inv-loop μ-loop
-returns c = search pairing-over
+returns c = search pairing-full
+
+next-live-requires : tie.Need-next-live-requires Inv-loop μ-loop
+next-live-requires c κs = search needs
+
+enum-told-3 : tie.Need-enum-told-3 Inv-loop μ-loop
+enum-told-3 c = search needs
+
+same-length-2 : tie.Need-same-length-2 Inv-loop μ-loop
+same-length-2 c = search listed-length
+
+returns-2 : tie.Need-returns-2 Inv-loop μ-loop
+returns-2 c = search pairing-over
 
 enum-known-found : tie.Need-enum-known-found Inv-loop μ-loop
 enum-known-found c = search needs
@@ -57,13 +69,13 @@ loop-less : tie.Need-loop-less Inv-loop μ-loop
 loop-less c = search needs
 
 loop-again : tie.Need-loop-again Inv-loop μ-loop
-loop-again c = pairing-more (c .before .before .before .before .before .before .before .before .before .before .before .loop .inv) (c .before .before .before .before .before .before .before .before .before .before .loop-test .taken) (c .before .before .before .before .before .before .before .before .before .next-live .ensures) (c .before .before .before .before .before .before .before .found .given .1) (c .before .before .before .before .key-of .ensures) (c .before .before .before .value-of .ensures) (c .before .before .then-pair .ensures)
+loop-again c = pairing-more (c .before .before .before .before .before .before .before .before .before .before .before .before .before .loop .inv) (c .before .before .before .before .before .before .before .before .before .before .before .before .loop-test .taken) (c .before .before .before .before .before .before .before .before .before .next-live .ensures) (c .before .before .before .before .before .before .before .found .given .1) (c .before .before .before .before .key-of .ensures) (c .before .before .before .value-of .ensures) (c .before .before .then-pair .ensures)
 
-same-length-2 : tie.Need-same-length-2 Inv-loop μ-loop
-same-length-2 c = search listed-length
+same-length-3 : tie.Need-same-length-3 Inv-loop μ-loop
+same-length-3 c = search listed-length
 
-returns-2 : tie.Need-returns-2 Inv-loop μ-loop
-returns-2 c = search pairing-end
+returns-3 : tie.Need-returns-3 Inv-loop μ-loop
+returns-3 c = search pairing-end
 
 pub put-pairs-spec : {M : Type 1} → statement M
 put-pairs-spec =
@@ -74,10 +86,14 @@ put-pairs-spec =
     mul-put-head
     put-head-requires
     loop-holds
-    next-live-requires
     enum-told
+    enum-told-2
     same-length
     returns
+    next-live-requires
+    enum-told-3
+    same-length-2
+    returns-2
     enum-known-found
     key-of-requires
     value-of-requires
@@ -86,5 +102,5 @@ put-pairs-spec =
     sub-left
     loop-less
     loop-again
-    same-length-2
-    returns-2)
+    same-length-3
+    returns-3)
