@@ -4,14 +4,16 @@ use native.Mathlib.Nat.{zero-add, add-zero, add-suc}
 use native.Mathlib.Omega.{arith}
 use mathlib.Core.Path.{_≡_, refl, sym, ap, _∙_, subst}
 use mathlib.Core.Bool.{true}
-use mathlib.Core.List.{List, [], _∷_, _++_, map}
-use lib.ListN.{length, getD, take, drop, length-append, length-drop, take-append-drop}
-use lib.Seq.{getD-take, getD-drop, take-take, length-take-le}
+use mathlib.Core.List.{List, [], _∷_, _++_, map, append-nil}
+use lib.ListN.{length, getD, take, drop, replicate, length-append, length-drop, take-append-drop, drop-of-length-le}
+use lib.Seq.{getD-take, getD-drop, take-all, take-take, length-take-le}
 use Rattle.key.specs.Bytes.{Bytes, _and_, part, total}
 use Rattle.key.proofs.Bytes.{and-left, and-right}
 use Rattle.writing.specs.declared.Put.{Put}
-use Rattle.writing.specs.Puts.{Puts}
-use Rattle.writing.proofs.Puts.{length-kept, Follows, follows-none, follows-more, then-follows}
+use Rattle.writing.specs.declared.Put.the-variants.{Wrote, Full}
+use Rattle.writing.specs.Puts.{Puts, Adds, answeredBehind, placedBehind}
+use Rattle.writing.proofs.Lent.{rest, with-rest, rest-is, with-rest-is}
+use Rattle.writing.proofs.Puts.{length-kept, was-full, Follows, follows-none, follows-more, then-follows}
 use Rattle.resp.specs.Reply.{head, encode}
 use Rattle.memtable.specs.Rows.{versionsIn}
 use Rattle.server.specs.Names.{Args, requestQueueable}
@@ -23,7 +25,7 @@ use Rattle.own.specs.Own.{ownWrites, Own, readerOf}
 use Rattle.own.proofs.Growing.{none-writes, own-none, part-append}
 use Rattle.inside.specs.declared.Walked.{Walked}
 use Rattle.inside.specs.Walks.{Advanced}
-use Rattle.exec.specs.Progress.{Progress, begun, advance, advanceAll, Queued, requestsIn, commandsIn, QueueRan}
+use Rattle.exec.specs.Progress.{Progress, begun, advance, advanceAll, Queued, requestsIn, commandsIn, lentFrom, QueueRan}
 
 -- ARGUMENTS of a part of the table
 pub take-arguments : (k n m : ℕ) (p : List ℕ) (s : Bytes) → take n (argumentsAt k (n + m) p s) ≡ argumentsAt k n p s
@@ -62,6 +64,46 @@ unfolding argumentsAt
 grown-arguments p d t count j zero ps h = refl
 grown-arguments p d t count j (suc m) ps h =
     λ z. part-append (getD p (2 * j) 0) (getD p (2 * j + 1) 0) d t (ps .inside j (omega arith)) z ∷ grown-arguments p d t count (suc j) m ps (omega arith) z
+
+-- THE PART of the reply buffer that the next command is lent
+pub lent-all : {put : Put} {n : ℕ} (len : ℕ) → put ≡ Wrote n → 0 ≡ lentFrom put len
+unfolding lentFrom
+lent-all len e = rw e refl
+
+pub lent-none : {put : Put} (len : ℕ) → put ≡ Full → len ≡ lentFrom put len
+unfolding lentFrom
+lent-none len e = rw e refl
+
+pub lent-within : (put : Put) (len : ℕ) {at : ℕ} → at ≡ lentFrom put len → at ≤ len
+unfolding lentFrom
+lent-within put len {at} is = go put is
+  where
+    go : (u : Put) → at ≡ lentFrom u len → at ≤ len
+    go (Wrote n) e = omega arith
+    go Full e = omega arith
+
+-- what was written there is written behind what was put: a reply that did not fit has left zeros, and they stay
+lent-adds : {done-text text start entry last : Bytes} {put after : Put} {at : ℕ} → Puts done-text start put entry → at ≡ lentFrom put (length entry)
+    → Adds text put (rest at entry) after last → Adds text put entry after (with-rest at entry last)
+unfolding lentFrom answeredBehind placedBehind
+lent-adds {text = text} {start = start} {entry = entry} {last = last} {put = put} {after = after} {at = at} p is a = go put refl is
+  where
+    go : (u : Put) → put ≡ u → at ≡ lentFrom u (length entry) → Adds text put entry after (with-rest at entry last)
+    go (Wrote n) e is =
+        let whole : rest at entry ≡ entry = rest-is at entry ∙ ap (λ (k : ℕ). drop k entry) is in
+        let back : with-rest at entry last ≡ last = with-rest-is at entry last ∙ ap (λ (k : ℕ). take k entry ++ last) is in
+        rw back (subst (λ (l : Bytes). Adds text put l after last) whole a)
+    go Full e is =
+        let none : rest at entry ≡ [] = rest-is at entry ∙ ap (λ (k : ℕ). drop k entry) is ∙ drop-of-length-le entry {i = length entry} (omega arith) in
+        let b : Adds text Full [] after last = subst (λ (u : Put). Adds text u [] after last) e (subst (λ (l : Bytes). Adds text put l after last) none a) in
+        let zeros : entry ≡ replicate (length entry) 0 = was-full p e .buffer ∙ ap (λ (k : ℕ). replicate k 0) (sym (length-kept p)) in
+        let back : with-rest at entry last ≡ entry =
+        with-rest-is at entry last
+        ∙ ap (λ (k : ℕ). take k entry ++ last) is
+        ∙ ap (λ (l : Bytes). take (length entry) entry ++ l) (b .buffer)
+        ∙ append-nil (take (length entry) entry)
+        ∙ take-all (length entry) entry (omega arith) in
+        record { answer = rw e (b .answer); buffer = rw e (back ∙ zeros) }
 
 -- THE WALK: the first i commands, of the first `first` arguments, have been run; d₀ is the data that was in use before them
 pub record Walking (s p : List ℕ) (d₀ : Bytes) (w : List ℕ) (b : Bytes) (seq : ℕ) (put₀ : Put) (own₀ : List ℕ) (data₀ out₀ : Bytes) (own : List ℕ) (d out : Bytes) (a : Walked) (first i : ℕ) : Type 0 where
@@ -188,11 +230,12 @@ module _ {s p : List ℕ} {d₀ : Bytes} {w : List ℕ} {b : Bytes} {seq : ℕ} 
     pub text-room : a .used + 20 ≤ length d
     text-room = omega (arith, g .used-room)
 
-    pub walking-more : {own′ : List ℕ} {d′ out′ : Bytes} {r : Walked}
-        → Advanced (run (readerOf own (take (a .used) d) (a .rows) w b seq) (commandOf (argumentsAt 0 count (part (2 * first) (2 * first + 2 * count - 2 * first) p) (take (a .used) d)))) (count - 1) own d out a own′ d′ out′ r
-        → Walking s p d₀ w b seq put₀ own₀ data₀ out₀ own′ d′ out′ r (first + count) (i + 1)
+    pub walking-more : {own′ : List ℕ} {d′ last : Bytes} {r : Walked} {text start : Bytes} {at : ℕ}
+        → Puts text start put₀ out₀ → at ≡ lentFrom (a .put) (length out)
+        → Advanced (run (readerOf own (take (a .used) d) (a .rows) w b seq) (commandOf (argumentsAt 0 count (part (2 * first) (2 * first + 2 * count - 2 * first) p) (take (a .used) d)))) (count - 1) own d (rest at out) a own′ d′ last r
+        → Walking s p d₀ w b seq put₀ own₀ data₀ out₀ own′ d′ (with-rest at out last) r (first + count) (i + 1)
     unfolding readerOf advanceAll advance splitBy
-    walking-more {own′} {d′} {out′} {r} x =
+    walking-more {own′} {d′} {last} {r} u lent x =
         let c : Command = commandOf (argumentsAt first count p d₀) in
         let same-command : commandOf (argumentsAt 0 count (part (2 * first) (2 * first + 2 * count - 2 * first) p) (take (a .used) d)) ≡ c = ap commandOf lent-arguments in
         let m : ℕ = total (part (68 + (i + 1)) (getD s 3 0 - (i + 1)) s) in
@@ -217,7 +260,7 @@ module _ {s p : List ℕ} {d₀ : Bytes} {w : List ℕ} {b : Bytes} {seq : ℕ} 
               (record { writes = ownWrites own (take (a .used) d) (a .rows); replies = g .replies })) (sym same-command)
               ∙ (λ z. advanceAll seq (versionsIn w b) (map commandOf (splitBy (part (68 + (i + 1)) (getD s 3 0 - (i + 1)) s) (argumentsAt (first + count) m p d₀)))
               (record { writes = sym (x .writes) z; replies = g .replies ++ encode (e .0) }));
-          follows = follows-more (g .follows) (x .adds) refl;
+          follows = follows-more (g .follows) (lent-adds (then-follows u (g .follows)) lent (x .adds)) refl;
           same = x .same ∙ g .same;
           same-data = x .same-data ∙ g .same-data;
         }

@@ -5,6 +5,8 @@ use mathlib.Core.Bool.{true}
 use mathlib.Core.List.{List, [], _∷_, _++_, map}
 use lib.ListN.{length, getD, take}
 use Rattle.key.specs.Bytes.{Bytes, part, total}
+use Rattle.writing.specs.declared.Put.{Put}
+use Rattle.writing.specs.declared.Put.the-variants.{Wrote, Full}
 use Rattle.writing.specs.Puts.{Puts}
 use Rattle.resp.specs.Reply.{head, encode}
 use Rattle.memtable.specs.Table.{Write, over, lastWrites}
@@ -55,6 +57,11 @@ pub record Queued (s p : List ℕ) (d : Bytes) : Type 0 where
 -- its commands
 unfoldable pub commandsIn : List ℕ → List ℕ → Bytes → List Command
 commandsIn s p d = map commandOf (requestsIn s p d)
+
+-- where the part of a reply buffer of `len` bytes that the next command is lent starts: once a reply did not fit, the part is empty
+unfoldable pub lentFrom : Put → ℕ → ℕ
+lentFrom (Wrote n) len = 0
+lentFrom Full len = len
 
 -- what running all of them leaves, by how far they have come
 pub record QueueRan (e : Progress) (count : ℕ) (own : List ℕ) (d out : Bytes) (own′ : List ℕ) (d′ out′ : Bytes) (r : Walked) : Type 0 where

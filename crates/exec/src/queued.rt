@@ -7,6 +7,7 @@ use inside::Walked;
 use inside::counters;
 use inside::pairs;
 use inside::tombstones;
+use writing::Put;
 ghost use mathlib.Core.Path.{_≡_};
 ghost use mathlib.Core.Bool.{true};
 ghost use Prim.Native.Nat.{_+_, _-_, _*_, _≤_};
@@ -18,7 +19,7 @@ ghost use Rattle.server.specs.Command.{commandOf, run};
 ghost use Rattle.server.specs.Places.{argumentsAt, PartsIn};
 ghost use Rattle.own.specs.Own.{Own, readerOf};
 ghost use Rattle.inside.specs.Walks.{Advanced};
-ghost use Rattle.exec.specs.Progress.{begun, advanceAll, Queued, commandsIn, QueueRan};
+ghost use Rattle.exec.specs.Progress.{begun, advanceAll, Queued, commandsIn, lentFrom, QueueRan};
 
 // Runs a queued command.
 pub fn run_queued(
@@ -93,6 +94,16 @@ pub fn run_queued(
     }
 }
 
+// Where the part of the reply buffer that the next command is lent starts: at the end, once a reply did not fit.
+fn lent_from(put: Put, len: usize) -> usize
+    ensures { λ r. ⌜ r ≡ lentFrom put len ⌝ }
+{
+    let Put::Wrote(_) = put else {
+        return len;
+    };
+    0
+}
+
 // Runs the commands of a session's queue, one after another, behind the head of their replies. `used` bytes of the data are in use.
 pub fn run_queue(
     session_words: &[u64],
@@ -123,6 +134,8 @@ pub fn run_queue(
         let count = sessions::word(session_words, 68 + i);
         let start = 2 * first;
         let end = start + 2 * count;
+        let put = at.put;
+        let lent = lent_from(put, out.len());
         at = run_queued(
             &places[start..end],
             count,
@@ -131,7 +144,7 @@ pub fn run_queue(
             words,
             bytes,
             seq,
-            out,
+            &mut out[lent..],
             at,
         );
         first += count;

@@ -1,5 +1,5 @@
 -- `exec::queued::run_queue` meets its contract. Assumes nothing.
-use Rattle.exec.proofs.WalkLaws.{Walking, walking-none, count-least, may-queue, places-in, few-places, lent-parts, rows-room, text-room, walking-more, word-in, walked-all, walking-length}
+use Rattle.exec.proofs.WalkLaws.{Walking, walking-none, count-least, may-queue, places-in, few-places, lent-parts, lent-within, rows-room, text-room, walking-more, word-in, walked-all, walking-length}
 use lib.ListN.{take}
 use native.Mathlib.Omega.{arith}
 use Prim.Native.Nat.{_-_}
@@ -37,6 +37,9 @@ mul-end c = omega (arith, few-places (c .before .before .loop .inv) (c .before .
 add-end : tie.Need-add-end Inv-loop μ-loop
 add-end c = omega (arith, few-places (c .before .before .loop .inv) (c .before .before .before .before .before .before .before .before .before .before .before .before .before .before .before .pre .0) (c .before .before .before .before .before .before .before .word .ensures) (c .before .loop-test .taken) (c .word2 .ensures))
 
+lent-from-requires : tie.Need-lent-from-requires Inv-loop μ-loop
+lent-from-requires c κs = search needs
+
 mul-run-queued : tie.Need-mul-run-queued Inv-loop μ-loop
 mul-run-queued c = search needs
 
@@ -47,13 +50,22 @@ part-run-queued-start : tie.Need-part-run-queued-start Inv-loop μ-loop
 part-run-queued-start c = omega arith
 
 part-run-queued-end : tie.Need-part-run-queued-end Inv-loop μ-loop
-part-run-queued-end c = places-in (c .before .before .loop .inv) (c .before .before .before .before .before .before .before .before .before .before .before .before .before .before .before .pre .0) (c .before .before .before .before .before .before .before .word .ensures) (c .before .loop-test .taken) (c .word2 .ensures)
+part-run-queued-end c = places-in (c .before .before .before .loop .inv) (c .before .before .before .before .before .before .before .before .before .before .before .before .before .before .before .before .pre .0) (c .before .before .before .before .before .before .before .before .word .ensures) (c .before .before .loop-test .taken) (c .before .word2 .ensures)
+
+sub-run-queued-2 : tie.Need-sub-run-queued-2 Inv-loop μ-loop
+sub-run-queued-2 c = search lent-within
+
+part-run-queued-start-2 : tie.Need-part-run-queued-start-2 Inv-loop μ-loop
+part-run-queued-start-2 c = search lent-within
+
+part-run-queued-end-2 : tie.Need-part-run-queued-end-2 Inv-loop μ-loop
+part-run-queued-end-2 c = search needs
 
 run-queued-requires : tie.Need-run-queued-requires Inv-loop μ-loop
-run-queued-requires c κs = (search needs, (search needs, (lent-parts (c .before .before .before .before .before .before .loop .inv) (c .before .before .before .before .before .before .before .before .before .before .before .before .before .before .before .before .before .before .before .pre .0) (c .before .before .before .before .before .before .before .before .before .before .before .word .ensures) (c .before .before .before .before .before .loop-test .taken) (c .before .before .before .before .word2 .ensures), (count-least (c .before .before .before .before .before .before .loop .inv) (c .before .before .before .before .before .before .before .before .before .before .before .before .before .before .before .before .before .before .before .pre .0) (c .before .before .before .before .before .before .before .before .before .before .before .word .ensures) (c .before .before .before .before .before .loop-test .taken) (c .before .before .before .before .word2 .ensures), (may-queue (c .before .before .before .before .before .before .loop .inv) (c .before .before .before .before .before .before .before .before .before .before .before .before .before .before .before .before .before .before .before .pre .0) (c .before .before .before .before .before .before .before .before .before .before .before .word .ensures) (c .before .before .before .before .before .loop-test .taken) (c .before .before .before .before .word2 .ensures), (rows-room (c .before .before .before .before .before .before .loop .inv) (c .before .before .before .before .before .before .before .before .before .before .before .before .before .before .before .before .before .before .before .pre .0) (c .before .before .before .before .before .before .before .before .before .before .before .word .ensures) (c .before .before .before .before .before .loop-test .taken) (c .before .before .before .before .word2 .ensures) (c .before .before .before .before .before .before .before .before .before .before .before .before .before .before .before .before .before .before .before .pre .1 .1 .0), text-room (c .before .before .before .before .before .before .loop .inv) (c .before .before .before .before .before .before .before .before .before .before .before .before .before .before .before .before .before .before .before .pre .0) (c .before .before .before .before .before .before .before .before .before .before .before .word .ensures) (c .before .before .before .before .before .loop-test .taken) (c .before .before .before .before .word2 .ensures)))))))
+run-queued-requires c κs = (search needs, (search needs, (lent-parts (c .before .before .before .before .before .before .before .loop .inv) (c .before .before .before .before .before .before .before .before .before .before .before .before .before .before .before .before .before .before .before .before .pre .0) (c .before .before .before .before .before .before .before .before .before .before .before .before .word .ensures) (c .before .before .before .before .before .before .loop-test .taken) (c .before .before .before .before .before .word2 .ensures), (count-least (c .before .before .before .before .before .before .before .loop .inv) (c .before .before .before .before .before .before .before .before .before .before .before .before .before .before .before .before .before .before .before .before .pre .0) (c .before .before .before .before .before .before .before .before .before .before .before .before .word .ensures) (c .before .before .before .before .before .before .loop-test .taken) (c .before .before .before .before .before .word2 .ensures), (may-queue (c .before .before .before .before .before .before .before .loop .inv) (c .before .before .before .before .before .before .before .before .before .before .before .before .before .before .before .before .before .before .before .before .pre .0) (c .before .before .before .before .before .before .before .before .before .before .before .before .word .ensures) (c .before .before .before .before .before .before .loop-test .taken) (c .before .before .before .before .before .word2 .ensures), (rows-room (c .before .before .before .before .before .before .before .loop .inv) (c .before .before .before .before .before .before .before .before .before .before .before .before .before .before .before .before .before .before .before .before .pre .0) (c .before .before .before .before .before .before .before .before .before .before .before .before .word .ensures) (c .before .before .before .before .before .before .loop-test .taken) (c .before .before .before .before .before .word2 .ensures) (c .before .before .before .before .before .before .before .before .before .before .before .before .before .before .before .before .before .before .before .before .pre .1 .1 .0), text-room (c .before .before .before .before .before .before .before .loop .inv) (c .before .before .before .before .before .before .before .before .before .before .before .before .before .before .before .before .before .before .before .before .pre .0) (c .before .before .before .before .before .before .before .before .before .before .before .before .word .ensures) (c .before .before .before .before .before .before .loop-test .taken) (c .before .before .before .before .before .word2 .ensures)))))))
 
 add-first : tie.Need-add-first Inv-loop μ-loop
-add-first c = omega (arith, few-places (c .before .before .before .before .before .before .before .before .before .before .before .before .before .loop .inv) (c .before .before .before .before .before .before .before .before .before .before .before .before .before .before .before .before .before .before .before .before .before .before .before .before .before .before .pre .0) (c .before .before .before .before .before .before .before .before .before .before .before .before .before .before .before .before .before .before .word .ensures) (c .before .before .before .before .before .before .before .before .before .before .before .before .loop-test .taken) (c .before .before .before .before .before .before .before .before .before .before .before .word2 .ensures))
+add-first c = omega (arith, few-places (c .before .before .before .before .before .before .before .before .before .before .before .before .before .before .loop .inv) (c .before .before .before .before .before .before .before .before .before .before .before .before .before .before .before .before .before .before .before .before .before .before .before .before .before .before .before .pre .0) (c .before .before .before .before .before .before .before .before .before .before .before .before .before .before .before .before .before .before .before .word .ensures) (c .before .before .before .before .before .before .before .before .before .before .before .before .before .loop-test .taken) (c .before .before .before .before .before .before .before .before .before .before .before .before .word2 .ensures))
 
 add-i : tie.Need-add-i Inv-loop μ-loop
 add-i c = search needs
@@ -62,7 +74,7 @@ loop-less : tie.Need-loop-less Inv-loop μ-loop
 loop-less c = search needs
 
 loop-again : tie.Need-loop-again Inv-loop μ-loop
-loop-again c = walking-more (c .before .before .before .before .before .before .before .before .before .before .before .before .before .loop .inv) (c .before .before .before .before .before .before .before .before .before .before .before .before .before .before .before .before .before .before .before .before .before .before .before .before .before .before .pre .0) (c .before .before .before .before .before .before .before .before .before .before .before .before .before .before .before .before .before .before .word .ensures) (c .before .before .before .before .before .before .before .before .before .before .before .before .loop-test .taken) (c .before .before .before .before .before .before .before .before .before .before .before .word2 .ensures) (c .before .before .before .before .before .before .run-queued .ensures)
+loop-again c = walking-more (c .before .before .before .before .before .before .before .before .before .before .before .before .before .before .loop .inv) (c .before .before .before .before .before .before .before .before .before .before .before .before .before .before .before .before .before .before .before .before .before .before .before .before .before .before .before .pre .0) (c .before .before .before .before .before .before .before .before .before .before .before .before .before .before .before .before .before .before .before .word .ensures) (c .before .before .before .before .before .before .before .before .before .before .before .before .before .loop-test .taken) (c .before .before .before .before .before .before .before .before .before .before .before .before .word2 .ensures) (c .before .before .before .before .before .before .before .before .before .before .before .before .before .before .before .before .before .put-head .ensures) (c .before .before .before .before .before .before .before .before .before .before .before .lent-from .ensures) (c .before .before .before .before .before .before .run-queued .ensures)
 
 same-length : tie.Need-same-length Inv-loop μ-loop
 same-length c = search needs
@@ -90,10 +102,14 @@ run-queue-spec =
     mul-start
     mul-end
     add-end
+    lent-from-requires
     mul-run-queued
     sub-run-queued
     part-run-queued-start
     part-run-queued-end
+    sub-run-queued-2
+    part-run-queued-start-2
+    part-run-queued-end-2
     run-queued-requires
     add-first
     add-i
