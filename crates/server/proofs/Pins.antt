@@ -1,4 +1,4 @@
--- What the answers are, pinned apart from their definitions: a long reply leaves all, DEL counts the live keys, a watched key carries its first sequence, EXEC and a
+-- What the answers are, pinned apart from their definitions: eleven names may be queued, a long reply leaves all, DEL counts the live keys, a watched key carries its first sequence, EXEC and a
 -- command that are accepted say so, a command that cannot be queued marks, a queued one is what it means outside MULTI.
 use Prim.Native.Nat.{ℕ, _+_}
 use native.Mathlib.Omega.{arith}
@@ -9,7 +9,7 @@ use mathlib.Core.Path.{_≡_, refl, ap, _∙_}
 use lib.Dec.{leb}
 use lib.IntN.{pos}
 use lib.ListN.{length}
-use Rattle.key.specs.Bytes.{Bytes}
+use Rattle.key.specs.Bytes.{Bytes, bytes}
 use Rattle.key.specs.Keys.{Key}
 use Rattle.resp.specs.Reply.{Integer, array}
 use Rattle.memtable.specs.Table.{Value, Reader, find}
@@ -19,13 +19,19 @@ use Rattle.batch.specs.Group.{among}
 use Rattle.key.proofs.Bytes.{both-parts}
 use Rattle.server.specs.declared.Name.{Name}
 use Rattle.server.specs.declared.Name.the-variants.{Queueable}
-use Rattle.server.specs.Names.{Args, Row, rows, rowIn, rowOf, sameName, nameWord, arguments, countRight, withOptions, operationOf, mayQueue, requestQueueable, arity, other}
+use Rattle.server.specs.Names.{Args, Row, rows, queueableTexts, rowIn, rowOf, sameName, nameWord, arguments, countRight, withOptions, operationOf, mayQueue, requestQueueable, arity, other}
 use Rattle.server.specs.Command.{DEL, EXISTS, runs, fixed, Effect, setOptions, commandAs, executedAs, executedOf, commandOf, tombstone, liveOne, live, run}
 use Rattle.server.specs.Session.{watchedKeys, Session, clear, Done, says, returns, marked, committed, addKeys, watchFits, watching, queueFits, queuedReply, enqueue, queueUp, verdictExec, execute, insideMulti}
 use Rattle.server.specs.Sessions.{ascending}
 use Rattle.server.specs.Finish.{silent, fitted}
 use Rattle.server.proofs.WatchLaws.{carried, adds-carry}
 use Rattle.server.proofs.SessionLaws.{ranBy, writesBy, ends, execute-ends}
+
+-- the names that may be queued, as document 01 lists them
+pub eleven-names : queueableTexts rows
+    ≡ bytes "GET" ∷ bytes "SET" ∷ bytes "DEL" ∷ bytes "EXISTS" ∷ bytes "MGET" ∷ bytes "MSET" ∷ bytes "INCR" ∷ bytes "INCRBY" ∷ bytes "DECR" ∷ bytes "PING" ∷ bytes "ECHO" ∷ []
+unfolding queueableTexts rows
+eleven-names = refl
 
 -- 3 leaves all
 pub long-reply : (room used : ℕ) (b : Bytes) (d : Done) (st : Store) (s : Session) → leb (length b) room ≡ false → fitted room used b d st s ≡ silent 3 0 st s
