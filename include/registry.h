@@ -33,7 +33,6 @@
 #ifndef REGISTRY_H
 #define REGISTRY_H
 
-#include <stdbool.h>
 #include <stddef.h>
 #include <stdint.h>
 
@@ -96,7 +95,7 @@ typedef struct {
 
 /* A member of a group. Writes and checked keys are rows of one table of parts, so they stand in different parts of it. */
 typedef struct {
-    bool has_read;      /* whether it has a read sequence; must be true or false */
+    uint64_t has_read;  /* 0: it has no read sequence, and `read` is not looked at; any other word: it has one */
     uint64_t read;      /* the read sequence */
     size_t first_write; /* its writes are the rows first_write up to, not including, first_write + writes; */
     size_t writes;      /* row j has the words 4 j to 4 j + 3: key start, key length, value start, value word */

@@ -101,7 +101,7 @@ class Call:
             for key, value in m.writes:
                 self.parts += self.place(key) + (self.place(value) if value is not None else [0, -1])
             checks += [word for key in m.checks for word in self.place(key)]
-            read = f"has_read: {'false' if m.read is None else 'true'}, read: {m.read or 0}"
+            read = f"has_read: {0 if m.read is None else 1}, read: {m.read or 0}"
             self.text.append(
                 f"Member {{ {read}, first_write: {first_write}, writes: {len(m.writes)}, first_check: {first_check}, checks: {len(m.checks)} }}"
             )
@@ -118,7 +118,7 @@ class Call:
     def lines(self):
         count = len(self.text)
         parts = ", ".join(map(str, self.parts or [0, 0]))
-        member = "Member { has_read: false, read: 0, first_write: 0, writes: 0, first_check: 0, checks: 0 }"
+        member = "Member { has_read: 0, read: 0, first_write: 0, writes: 0, first_check: 0, checks: 0 }"
         return [
             "    {",
             f"        let members = [{', '.join(self.text or [member])}];",

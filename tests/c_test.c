@@ -146,7 +146,7 @@ static void test_groups(void) {
     /* Writes: a = "x", tombstone of f; checked key f. */
     const uint64_t parts[] = {0, 1, 1, 2, 2, 1, 0, 0, 2, 1};
     const uint8_t data[] = {'a', 'x', 'f'};
-    const registry_member members[] = {{false, 0, 0, 2, 0, 0}, {true, 44, 0, 0, 4, 1}, {true, 46, 0, 1, 0, 0}};
+    const registry_member members[] = {{0, 0, 0, 2, 0, 0}, {2, 44, 0, 0, 4, 1}, {1, 46, 0, 1, 0, 0}};
     uint8_t verdicts[5] = {9, 9, 9, 9, 9};
     const uint8_t due[5] = {REGISTRY_ACCEPTED, REGISTRY_CONFLICT, REGISTRY_CONFLICT, 9, 9};
     const uint8_t none[5] = {9, 9, 9, 9, 9};

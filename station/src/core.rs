@@ -30,7 +30,7 @@ pub struct Previewed {
 #[repr(C)]
 #[derive(Clone, Copy, Debug, PartialEq, Eq)]
 pub struct Member {
-    pub has_read: bool,
+    pub has_read: u64,
     pub read: u64,
     pub first_write: usize,
     pub writes: usize,

@@ -36,7 +36,7 @@ pub fn lent(group: &[Plain]) -> Group {
             let word = value.as_ref().map_or(0, |v| v.len() as u64 + 1);
             made.parts.extend([key_start, key.len() as u64, value_start, word]);
         }
-        made.members.push(Member { has_read: member.read.is_some(), read: member.read.unwrap_or(0), first_write: writes, writes: member.writes.len(), first_check: 0, checks: member.checks.len() });
+        made.members.push(Member { has_read: u64::from(member.read.is_some()), read: member.read.unwrap_or(0), first_write: writes, writes: member.writes.len(), first_check: 0, checks: member.checks.len() });
         writes += member.writes.len();
     }
     let mut checks = 2 * writes;

@@ -31,7 +31,7 @@ fn call_many(
 // A member without a read sequence.
 fn writing(first: usize, count: usize) -> Member {
     Member {
-        has_read: false,
+        has_read: 0,
         read: 0,
         first_write: first,
         writes: count,
@@ -43,7 +43,7 @@ fn writing(first: usize, count: usize) -> Member {
 // A member with one: it writes `count` keys from the first write on, and checks `checks` keys from the first check on.
 fn reading(read: u64, count: usize, checks: usize) -> Member {
     Member {
-        has_read: true,
+        has_read: 1,
         read: read,
         first_write: 0,
         writes: count,

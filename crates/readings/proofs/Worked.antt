@@ -25,7 +25,7 @@ kindOf (member ws) = 4
 abbrev group-of-g : Call
 group-of-g =
     grouped
-    (record { «has_read» = false; read = 0; «first_write» = 0; writes = 1; «first_check» = 0; checks = 0 } ∷ [])
+    (record { «has_read» = 0; read = 0; «first_write» = 0; writes = 1; «first_check» = 0; checks = 0 } ∷ [])
     (0 ∷ 1 ∷ 1 ∷ 2 ∷ []) (bytes "gx") (255 ∷ [])
 
 unfoldable worked : List Call

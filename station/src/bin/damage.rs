@@ -425,7 +425,7 @@ fn any_group(random: &mut Random, last: u64) -> Vec<Plain> {
 
 /// A fault of the group that gives 8.
 fn break_group(group: &mut Group, verdicts: &mut Vec<u8>, random: &mut Random) {
-    let member = Member { has_read: false, read: 0, first_write: 0, writes: 0, first_check: 0, checks: 0 };
+    let member = Member { has_read: 0, read: 0, first_write: 0, writes: 0, first_check: 0, checks: 0 };
     // Each is beyond the data and beyond the rows of the table of parts.
     let any = [u64::MAX, u64::MAX - 3, 1 << 62, 1 << 63, (group.data.len() + group.parts.len()) as u64 + 2];
     let kind = random.below(6);

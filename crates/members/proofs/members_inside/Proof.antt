@@ -69,7 +69,7 @@ stayed = (stay-none-slice (0 ∷ []) tt (plain (λ _. T.the-row)) yes, (stay-non
 
 -- a member that stands for none
 abbrev none : Member
-none = record { «has_read» = false; read = 0; «first_write» = 0; writes = 0; «first_check» = 0; checks = 0 }
+none = record { «has_read» = 0; read = 0; «first_write» = 0; writes = 0; «first_check» = 0; checks = 0 }
 
 -- the contract that the proof cites, and of the callee's `ensured` the clause alone
 module _ {M : Type 1} (𝓤 : URA M) (H : Heap 𝓤) (A : Atoms 𝓤) (mem : Memory → SProp 𝓤) (run : Routine → Fun 𝓤) where

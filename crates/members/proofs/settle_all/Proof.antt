@@ -90,7 +90,7 @@ stayed = (
 
 -- a member that stands for none
 abbrev none : Member
-none = record { «has_read» = false; read = 0; «first_write» = 0; writes = 0; «first_check» = 0; checks = 0 }
+none = record { «has_read» = 0; read = 0; «first_write» = 0; writes = 0; «first_check» = 0; checks = 0 }
 
 -- the last values of a call of `settle_next`
 abbrev Ends : Type 0
