@@ -11,10 +11,9 @@ A record is a byte that tells its kind, three bytes of length, the highest first
   2 4 8  a request, read with places for so many arguments
   ?      a pattern and a name, two records
   =      a byte of size, and items, which are records, written behind one another into a buffer of that size
-An item is + a simple string, - an error, $ a bulk string, * the head of an array that counts the item's bytes, p four parts of a buffer or
-nil, : an integer and n the digits of a number, which is a record, or of the sum of two, _ nil, 0 the nil array, c the greatest cursor, x EXEC
-of a failed session, u an unknown name, q a name that may not be queued, a a name with a wrong number of arguments, and l text that may
-not be UTF-8.
+An item is + a simple string, - an error, $ a bulk string, * the head of an array that counts the item's bytes, : an integer
+and n the digits of a number, which is a record, or of the sum of two, _ nil, 0 the nil array, c the greatest cursor, x EXEC of a failed
+session, u an unknown name, q a name that may not be queued, a a name with a wrong number of arguments, and l text that may not be UTF-8.
 In what is expected CR, LF and \\ are escaped, and so is each byte outside ASCII's printed ones.
 """
 import collections
@@ -239,9 +238,9 @@ def replies():
         r"-EXECABORT Transaction discarded because of previous errors.\r\n",
     )
     text(
-        "a cursor, and parts of a buffer or nil",
+        "a cursor, and values or nil",
         64,
-        [head(2), ("c", b""), ("p", b"abcd")],
+        [head(2), ("c", b""), head(4), ("$", b"ab"), ("_", b""), ("$", b""), ("$", b"bcd")],
         r"*2\r\n$20\r\n18446744073709551615\r\n*4\r\n$2\r\nab\r\n$-1\r\n$0\r\n\r\n$3\r\nbcd\r\n",
     )
     text("11 bytes into 11", 11, [("$", b"hello")], r"$5\r\nhello\r\n")

@@ -1,6 +1,6 @@
 -- The laws of `encode`: each reply is written part by part, and an array item by item. Assumes nothing.
 use mathlib.Core.Path.{_≡_, refl, sym, ap, _∙_}
-use mathlib.Core.List.{List, [], _∷_, _++_, map, append-assoc, append-nil}
+use mathlib.Core.List.{List, [], _∷_, _++_, append-assoc, append-nil}
 use Prim.Native.Nat.{ℕ, suc}
 use lib.ListN.{length}
 use Rattle.key.specs.Bytes.{Bytes}
@@ -13,13 +13,10 @@ use Rattle.writing.specs.declared.Put.{Put}
 use Rattle.writing.specs.declared.Put.the-variants.{Full}
 use Rattle.writing.specs.Puts.{Puts, Adds}
 use Rattle.writing.proofs.Puts.{then-puts, full-longer, same-text, same-added, Follows, follows-none, follows-more, then-follows, length-kept}
-use Rattle.resp.specs.Reply.{Reply, Integer, BulkString, clean, crlf, head, countItems, items, array, encode, encodeAll}
+use Rattle.resp.specs.Reply.{Reply, Integer, BulkString, crlf, head, countItems, items, array, encode, encodeAll}
 
 -- A LINE: its mark, its body, its end
 module _ {l0 l1 l2 l3 : Bytes} {u1 u2 u3 : Put} where
-  pub write-line : {mark : ℕ} (text : Bytes) → Puts (mark ∷ []) l0 u1 l1 → Adds (map clean text) u1 l1 u2 l2 → Adds crlf u2 l2 u3 l3 → Puts (mark ∷ map clean text ++ crlf) l0 u3 l3
-  write-line text a b c = then-puts (then-puts a b) c
-
   -- the number as the machine reads it back from its bits
   pub write-int : (z : ℤ) → SFits w64 z → Puts (58 ∷ []) l0 u1 l1 → Adds (decimal (toZ w64 (ofZ w64 z))) u1 l1 u2 l2 → Adds crlf u2 l2 u3 l3 → Puts (encode (Integer z)) l0 u3 l3
   unfolding encode

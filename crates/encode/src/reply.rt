@@ -1,40 +1,15 @@
 // A writer for each kind of reply, at the front of the buffer that it is lent.
 use decimal::digits;
-use resp::Letters;
 use writing::Put;
-ghost use mathlib.Core.List.{_∷_, _++_, map};
 ghost use Rattle.writing.specs.Puts.{Puts, Adds};
 ghost use Rattle.number.specs.Decimal.{digits};
-ghost use Rattle.resp.specs.Reply.{Simple, Error, Integer, BulkString, Nil, NilArray, clean, crlf, encode, head};
+ghost use Rattle.resp.specs.Reply.{Integer, BulkString, NilArray, crlf, encode, head};
 
 // Writes CR LF behind what was put.
 pub fn then_crlf(out: &mut [u8], put: Put) -> Put
     ensures { λ r. ⌜ Adds crlf put (now (out .entry)) r (now (out .exit)) ⌝ }
 {
     writing::then_bytes(out, put, b"\r\n")
-}
-
-// A line of text, in which CR and LF are spaces, behind its mark.
-fn put_line(out: &mut [u8], mark: u8, text: &[u8]) -> Put
-    ensures { λ r. ⌜ Puts (mark ∷ map clean (now (text .entry)) ++ crlf) (now (out .entry)) r (now (out .exit)) ⌝ }
-{
-    let marked = writing::put_byte(out, mark);
-    let line = clean::then_clean(out, marked, text, Letters::AsSent);
-    then_crlf(out, line)
-}
-
-// A simple string.
-pub fn put_simple(out: &mut [u8], text: &[u8]) -> Put
-    ensures { λ r. ⌜ Puts (encode (Simple (now (text .entry)))) (now (out .entry)) r (now (out .exit)) ⌝ }
-{
-    put_line(out, b'+', text)
-}
-
-// An error.
-pub fn put_error(out: &mut [u8], text: &[u8]) -> Put
-    ensures { λ r. ⌜ Puts (encode (Error (now (text .entry)))) (now (out .entry)) r (now (out .exit)) ⌝ }
-{
-    put_line(out, b'-', text)
 }
 
 // A whole number.
@@ -71,13 +46,6 @@ pub fn put_bulk_digits(out: &mut [u8], n: u64) -> Put
     let line = put_head(out, b'$', digits::digit_count(n));
     let body = digits::then_digits(out, line, n);
     then_crlf(out, body)
-}
-
-// No value.
-pub fn put_nil(out: &mut [u8]) -> Put
-    ensures { λ r. ⌜ Puts (encode Nil) (now (out .entry)) r (now (out .exit)) ⌝ }
-{
-    writing::put_bytes(out, b"$-1\r\n")
 }
 
 // No array.

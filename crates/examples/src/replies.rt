@@ -39,14 +39,16 @@ fn put_number(kind: u8, out: &mut [u8], number: Number) -> Put {
     decimal::put_decimal(out, z)
 }
 
-// Parts of a buffer, or nil.
-fn put_parts(out: &mut [u8], bytes: &[u8]) -> Put {
-    array::put_parts(out, bytes, &[0u64, 3, 9, 0, 2, 1, 1, 4])
+// A simple string or an error, behind its mark.
+fn put_line(mark: u8, out: &mut [u8], text: &[u8]) -> Put {
+    let marked = writing::put_byte(out, mark);
+    let line = clean::then_clean(out, marked, text, Letters::AsSent);
+    reply::then_crlf(out, line)
 }
 
 fn put_fixed(kind: u8, out: &mut [u8]) -> Put {
     match kind {
-        b'_' => reply::put_nil(out),
+        b'_' => items::then_nil(out, Put::Wrote(0)),
         b'0' => reply::put_nil_array(out),
         b'c' => reply::put_bulk_digits(out, 18446744073709551615),
         _ => errors::put_fixed(out, Fixed::ExecAbort),
@@ -65,11 +67,9 @@ fn put_quoted(kind: u8, out: &mut [u8], text: &[u8]) -> Put {
 // The head of an array counts the bytes of its item.
 fn put_item(kind: u8, out: &mut [u8], text: &[u8]) -> Put {
     match kind {
-        b'+' => reply::put_simple(out, text),
-        b'-' => reply::put_error(out, text),
+        b'+' | b'-' => put_line(kind, out, text),
         b'$' => reply::put_bulk(out, text),
         b'*' => reply::put_head(out, b'*', text.len() as u64),
-        b'p' => put_parts(out, text),
         b':' | b'n' => put_number(kind, out, number(text)),
         b'_' | b'0' | b'c' | b'x' => put_fixed(kind, out),
         _ => put_quoted(kind, out, text),

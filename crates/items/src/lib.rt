@@ -3,37 +3,13 @@ use encode::reply;
 use writing::Put;
 ghost use Rattle.writing.specs.Puts.{Adds};
 ghost use Rattle.number.specs.Decimal.{digits};
-ghost use Rattle.resp.specs.Reply.{Simple, Error, Integer, BulkString, Nil, NilArray, encode, head};
-
-pub fn then_simple(out: &mut [u8], put: Put, text: &[u8]) -> Put
-    ensures { λ r. ⌜ Adds (encode (Simple (now (text .entry)))) put (now (out .entry)) r (now (out .exit)) ⌝ }
-{
-    let at = writing::place(put, out.len());
-    let next = reply::put_simple(&mut out[at..], text);
-    writing::joined(out, put, next)
-}
-
-pub fn then_error(out: &mut [u8], put: Put, text: &[u8]) -> Put
-    ensures { λ r. ⌜ Adds (encode (Error (now (text .entry)))) put (now (out .entry)) r (now (out .exit)) ⌝ }
-{
-    let at = writing::place(put, out.len());
-    let next = reply::put_error(&mut out[at..], text);
-    writing::joined(out, put, next)
-}
+ghost use Rattle.resp.specs.Reply.{Integer, BulkString, Nil, encode};
 
 pub fn then_int(out: &mut [u8], put: Put, z: i64) -> Put
     ensures { λ r. ⌜ Adds (encode (Integer z)) put (now (out .entry)) r (now (out .exit)) ⌝ }
 {
     let at = writing::place(put, out.len());
     let next = reply::put_int(&mut out[at..], z);
-    writing::joined(out, put, next)
-}
-
-pub fn then_head(out: &mut [u8], put: Put, kind: u8, count: u64) -> Put
-    ensures { λ r. ⌜ Adds (head kind count) put (now (out .entry)) r (now (out .exit)) ⌝ }
-{
-    let at = writing::place(put, out.len());
-    let next = reply::put_head(&mut out[at..], kind, count);
     writing::joined(out, put, next)
 }
 
@@ -57,10 +33,4 @@ pub fn then_nil(out: &mut [u8], put: Put) -> Put
     ensures { λ r. ⌜ Adds (encode Nil) put (now (out .entry)) r (now (out .exit)) ⌝ }
 {
     writing::then_bytes(out, put, b"$-1\r\n")
-}
-
-pub fn then_nil_array(out: &mut [u8], put: Put) -> Put
-    ensures { λ r. ⌜ Adds (encode NilArray) put (now (out .entry)) r (now (out .exit)) ⌝ }
-{
-    writing::then_bytes(out, put, b"*-1\r\n")
 }
