@@ -12,7 +12,7 @@ ghost use Rattle.memtable.specs.Versions.{commit};
 ghost use Rattle.memtable.specs.Layout.{countWord, usedWord, lastWord, mostBytesWord, storeIn, leaveWords, leaveBytes};
 ghost use Rattle.memtable.specs.Rows.{Valid};
 ghost use Rattle.memtable.specs.Merging.{Mergeable, frontAfter, wordsAfter, bytesAfter, leaveRows};
-ghost use Rattle.memtable.proofs.TableLaws.{Ascending};
+ghost use Rattle.memtable.specs.Table.{Ascending};
 ghost use Rattle.batch.specs.Members.{listFrom, writeAt};
 ghost use Rattle.batch.specs.Settling.{WriteIn, WritesIn, sizeAt, sizesFrom, RoomFor};
 

@@ -8,12 +8,11 @@ use Rattle.key.specs.Bytes.{Bytes}
 use Rattle.memtable.specs.declared.merge.Front.{Front}
 use Rattle.memtable.specs.declared.open.Left.{Left}
 use Rattle.memtable.specs.declared.open.Left.the-variants.{Rest, Short}
-use Rattle.memtable.specs.Table.{Write}
+use Rattle.memtable.specs.Table.{Write, Ascending}
 use Rattle.memtable.specs.Versions.{commit}
 use Rattle.memtable.specs.Layout.{countWord, usedWord, lastWord, mostBytesWord, storeIn, leaveWords, leaveBytes}
 use Rattle.memtable.specs.Rows.{Valid, bytesLeft}
 use Rattle.memtable.specs.Merging.{Mergeable, frontAfter, wordsAfter, bytesAfter, leaveRows}
-use Rattle.memtable.proofs.TableLaws.{Ascending}
 use Rattle.memtable.proofs.MergeLaws.{ascending-last, ascending-front}
 use Rattle.memtable.proofs.MergePass.{Pass, pass-none, pass-mergeable, pass-more, pass-rows, pass-bytes, rows-headed}
 use Rattle.batch.specs.Members.{listFrom, writeAt, writeInside}

@@ -10,9 +10,8 @@ use lib.ListN.{length, take, drop, take-append-drop}
 use Rattle.key.specs.declared.Order.the-variants.{Less}
 use Rattle.key.specs.Keys.{Key, compareKeys, isLess}
 use Rattle.key.proofs.Keys.{precedes, precedes-back, precedes-trans, less-is}
-use Rattle.memtable.specs.Table.{Write}
+use Rattle.memtable.specs.Table.{Write, Above, Ascending}
 use Rattle.memtable.specs.Versions.{Version, Store, insert, orderOf, before, commitOne, commit}
-use Rattle.memtable.proofs.TableLaws.{Above, Ascending}
 use Rattle.memtable.specs.Rows.{orderWith, placeOf, countOn}
 
 -- the versions of writes, whose sequences follow l

@@ -15,7 +15,8 @@ use Rattle.memtable.specs.Table.{Value}
 use Rattle.memtable.specs.Versions.{bytesOf}
 use Rattle.memtable.specs.Layout.{startWord, versionsFrom, wordOfValue}
 use Rattle.memtable.specs.Rows.{placeOf, valueIf}
-use Rattle.memtable.specs.Moves.{movedUp, putAt, shiftRows, rowsMoved}
+use Rattle.key.specs.Bytes.{movedUp, putAt}
+use Rattle.memtable.specs.Moves.{shiftRows, rowsMoved}
 use Rattle.memtable.specs.Merging.{Mergeable, startIn, rowMerged, bytesMerged, frontAfter, wordsAfter, bytesAfter}
 use Rattle.memtable.proofs.Rows.{place-fits}
 use Rattle.memtable.proofs.Moves.{put-part, gap-filled}

@@ -11,7 +11,7 @@ use Rattle.key.specs.Bytes.{Bytes, part}
 use Rattle.key.proofs.Bytes.{and-both}
 use Rattle.memtable.specs.Versions.{writesSize}
 use Rattle.memtable.specs.Layout.{valueOfWord}
-use Rattle.memtable.proofs.TableLaws.{Ascending}
+use Rattle.memtable.specs.Table.{Ascending}
 use Rattle.batch.specs.Members.{listFrom, allFrom, valueInside, writeAt, writeInside}
 use Rattle.batch.specs.Settling.{WriteIn, sizesFrom}
 use Rattle.batch.proofs.Walks.{list-long, same-list, all-of, all-at}

@@ -15,8 +15,8 @@ use Rattle.key.specs.Bytes.{Bytes, _and_}
 use Rattle.key.specs.Keys.{Key, compareKeys, isLess, keyBelow, sameKey}
 use Rattle.key.proofs.Keys.{less-is, turned, compare-turned, compare-trans, compare-refl, key-swap, same-is, same-less}
 use Rattle.key.proofs.Bytes.{and-left, and-right, neither}
-use Rattle.memtable.specs.Table.{Value, Write, update, find}
-use Rattle.memtable.proofs.TableLaws.{Above, Ascending, step, update-step, above-trans, find-above}
+use Rattle.memtable.specs.Table.{Value, Write, update, find, Above, Ascending}
+use Rattle.memtable.proofs.TableLaws.{step, update-step, above-trans, find-above}
 use Rattle.batch.specs.Members.{listFrom, writeAt}
 use Rattle.batch.specs.Settling.{keyPart, KeyIn}
 use Rattle.own.specs.Own.{ownWrites, Own, OwnAt}

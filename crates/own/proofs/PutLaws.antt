@@ -9,20 +9,19 @@ use mathlib.Core.Bool.{Bool, true, false}
 use mathlib.Core.List.{List, [], _∷_, _++_}
 use mathlib.Core.Option.{Option, some}
 use lib.ListN.{length}
-use Rattle.key.specs.Bytes.{Bytes, part}
+use Rattle.key.specs.Bytes.{Bytes, part, movedUp, putAt}
 use Rattle.key.specs.Keys.{Key}
-use Rattle.memtable.specs.Table.{Value, update}
+use Rattle.memtable.specs.Table.{Value, update, Ascending}
 use Rattle.memtable.specs.Layout.{valueOfWord}
-use Rattle.memtable.specs.Moves.{movedUp, putAt}
-use Rattle.memtable.proofs.Moves.{length-moved}
-use Rattle.memtable.proofs.TableLaws.{Ascending, ascending-update}
+use Rattle.key.proofs.Writes.{length-written, length-moved}
+use Rattle.memtable.proofs.TableLaws.{ascending-update}
 use Rattle.batch.specs.Members.{listFrom, writeAt, writeInside}
 use Rattle.batch.proofs.Walks.{join-list, same-list, all-of, all-at}
 use Rattle.own.specs.Own.{ownWrites, Own}
 use Rattle.own.specs.Changes.{placeAmong, heldAt, RowFits, OwnPut}
 use Rattle.own.proofs.Lists.{by-order}
 use Rattle.own.proofs.Places.{place-within, held-inside, changed-here, changed-between}
-use Rattle.own.proofs.RowLaws.{length-put, same-write, same-inside, row-other-before, row-other-behind, row-write, row-inside, row-stays, row-moves}
+use Rattle.own.proofs.RowLaws.{same-write, same-inside, row-other-before, row-other-behind, row-write, row-inside, row-stays, row-moves}
 
 -- a table with these writes in these rows is one of own writes
 put-made : {w w′ : List ℕ} {d : Bytes} {n r : ℕ} {k : Key} {v : Option Value} → Own w d n → n ≤ r → r ≤ n + 1 → 4 * r ≤ length w → length w′ ≡ length w
@@ -103,7 +102,7 @@ module _ (w : List ℕ) (d : Bytes) (n ks kl : ℕ) {i : ℕ} where
         unfolding new value
         put-replaced e =
             subst (λ (t : List ℕ). OwnPut w t d n (part ks kl d) (valueOfWord x (part vs (x - 1) d)) n) (sym e)
-            (put-made o (omega arith) (omega arith) (omega arith) (length-put (4 * i) (ks ∷ kl ∷ vs ∷ x ∷ []) w put-room) replaced-inside replaced-list)
+            (put-made o (omega arith) (omega arith) (omega arith) (length-written (4 * i) (ks ∷ kl ∷ vs ∷ x ∷ []) w put-room) replaced-inside replaced-list)
 
       module _ (no : r ≡ false) where
         up : List ℕ
@@ -160,4 +159,4 @@ module _ (w : List ℕ) (d : Bytes) (n ks kl : ℕ) {i : ℕ} where
         put-inserted e f =
             subst (λ (t : List ℕ). OwnPut w t d n (part ks kl d) (valueOfWord x (part vs (x - 1) d)) (n + 1)) (sym (f ∙ ap (putAt (4 * i) (ks ∷ kl ∷ vs ∷ x ∷ [])) e))
             (put-made o (omega arith) (omega arith) (omega arith)
-            (length-put (4 * i) (ks ∷ kl ∷ vs ∷ x ∷ []) up up-room ∙ length-moved w (4 * i) (4 * n) 4 put-below room) grown-inside grown-list)
+            (length-written (4 * i) (ks ∷ kl ∷ vs ∷ x ∷ []) up up-room ∙ length-moved w (4 * i) (4 * n) 4 put-below room) grown-inside grown-list)

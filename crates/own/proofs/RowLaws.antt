@@ -6,13 +6,12 @@ use mathlib.Core.Path.{_≡_, sym, ap, _∙_}
 use mathlib.Core.Bool.{true}
 use mathlib.Core.List.{List, [], _∷_, _++_}
 use lib.Dec.{leb}
-use lib.ListN.{length, getD, take, drop, set, length-append, length-take, length-drop, List·getD-append}
+use lib.ListN.{length, getD, take, drop, set, List·getD-append}
 use lib.Seq.{slice, length-slice, length-take-le, getD-take, getD-drop, getD-append-add}
 use borrow.Author.Tests.{le-leb}
-use Rattle.key.specs.Bytes.{Bytes, _and_, part}
+use Rattle.key.specs.Bytes.{Bytes, _and_, part, movedUp, putAt}
 use Rattle.key.proofs.Bytes.{and-both}
 use Rattle.memtable.specs.Layout.{valueOfWord}
-use Rattle.memtable.specs.Moves.{movedUp, putAt}
 use Rattle.memtable.proofs.Moves.{row-put}
 use Rattle.batch.specs.Members.{valueInside, writeAt, writeInside}
 use Rattle.own.specs.Changes.{RowFits}
@@ -59,10 +58,6 @@ module _ (from to by : ℕ) (l : List ℕ) (h : from ≤ to) (room : to + by ≤
       ∙ getD-append-add (take (from + by) l) (slice from to l ++ drop (to + by) l) (x - from) 0
       ∙ List·getD-append (slice from to l) (drop (to + by) l) 0 (x - from) (rw (length-slice from to l (omega arith)) (omega arith))
       ∙ getD-drop from (take to l) (x - from) 0 ∙ ap (λ (n : ℕ). getD (take to l) n 0) f ∙ getD-take to l x 0 b
-
-pub length-put : (at : ℕ) (xs l : List ℕ) → at + length xs ≤ length l → length (putAt at xs l) ≡ length l
-unfolding putAt
-length-put at xs l h = simp (length-append, length-take, length-drop) (omega arith)
 
 -- row i of one table is row j of another
 pub record SameRow (w′ : List ℕ) (i : ℕ) (w : List ℕ) (j : ℕ) : Type 0 where

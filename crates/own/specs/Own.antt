@@ -7,10 +7,9 @@ use Rattle.key.specs.Bytes.{Bytes}
 use Rattle.key.specs.Keys.{Key}
 use Rattle.memtable.specs.declared.Found.{Found}
 use Rattle.memtable.specs.declared.Found.the-variants.{At, Nothing}
-use Rattle.memtable.specs.Table.{Reader, Write, find, over}
+use Rattle.memtable.specs.Table.{Reader, Write, find, over, Ascending}
 use Rattle.memtable.specs.Versions.{readAt}
 use Rattle.memtable.specs.Rows.{versionsIn}
-use Rattle.memtable.proofs.TableLaws.{Ascending}
 use Rattle.batch.specs.Members.{listFrom, writeAt}
 use Rattle.batch.specs.Settling.{WritesIn}
 

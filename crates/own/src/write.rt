@@ -4,9 +4,8 @@ ghost use mathlib.Core.Path.{_≡_};
 ghost use mathlib.Core.List.{[], _∷_};
 ghost use Prim.Native.Nat.{_+_, _-_, _*_, _≤_};
 ghost use lib.ListN.{length};
-ghost use Rattle.key.specs.Bytes.{part};
+ghost use Rattle.key.specs.Bytes.{part, movedUp, putAt};
 ghost use Rattle.memtable.specs.Layout.{valueOfWord};
-ghost use Rattle.memtable.specs.Moves.{movedUp, putAt};
 ghost use Rattle.own.specs.Own.{Own};
 ghost use Rattle.own.specs.Changes.{RowFits, OwnPut};
 

@@ -1,10 +1,8 @@
 // The queue of one session: its limits, and a command appended behind it.
-use store::merge;
 ghost use mathlib.Core.Path.{_≡_};
 ghost use Prim.Native.Nat.{_+_, _*_, _≤_};
 ghost use lib.ListN.{length};
-ghost use Rattle.memtable.specs.Moves.{putAt};
-ghost use Rattle.key.specs.Bytes.{part, total, concat};
+ghost use Rattle.key.specs.Bytes.{part, total, concat, putAt};
 ghost use Rattle.server.specs.Lent.{capped};
 ghost use Rattle.server.specs.Held.{Held};
 ghost use Rattle.server.specs.Places.{argumentsAt, lengthsAt, PartsIn, QueueSizes, Takes, HasRoom, Appended, placesOf, Expandable};
@@ -70,7 +68,7 @@ fn put_arguments(bytes: &mut [u8], at: usize, input: &[u8], places: &[u64], coun
         let start = sessions::word(places, 2 * i);
         let len = sessions::word(places, 2 * i + 1);
         let end = start + len;
-        merge::put(bytes, pos, &input[start..end]);
+        writing::put_at(bytes, pos, &input[start..end]);
         pos += len;
         i += 1;
     }

@@ -10,16 +10,15 @@ use borrow.Author.Tests.{leb-true}
 use lib.Dec.{leb}
 use lib.ListN.{length, getD, take, drop, set, length-append, length-set, length-drop}
 use lib.Seq.{drop-drop, take-take, take-suc, getD-drop, getD-append-add}
-use Rattle.memtable.specs.Moves.{putAt}
 use Rattle.key.proofs.Bytes.{both-parts, length-part}
 use Rattle.server.proofs.PlaceLaws.{places-length}
-use Rattle.key.specs.Bytes.{Bytes, part, concat, total}
+use Rattle.key.specs.Bytes.{Bytes, part, concat, total, putAt}
 use Rattle.server.specs.Session.{queueFits}
 use Rattle.server.specs.Sessions.{splitBy, queueIn}
 use Rattle.server.specs.Held.{Held}
 use Rattle.server.specs.Places.{argumentsAt, lengthsAt, PartsIn, HasRoom, placesOf, Expandable}
 use Rattle.server.proofs.Parts.{part-next, part-start, part-part, total-append}
-use Rattle.sessions.proofs.Writes.{written-none, written-set}
+use Rattle.key.proofs.Writes.{written-none, written-set}
 use Rattle.sessions.proofs.Kept.{queue-arguments}
 use Rattle.sessions.proofs.Queueing.{fits-as}
 

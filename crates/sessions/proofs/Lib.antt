@@ -6,4 +6,3 @@ pub mod Sums
 pub mod TestParts
 pub mod WatchCall
 pub mod Watching
-pub mod Writes

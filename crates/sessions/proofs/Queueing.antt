@@ -1,7 +1,7 @@
 -- Laws of a command appended to a queue. Assumes nothing.
 use mathlib.Core.Path.{_≡_, refl, sym, ap, _∙_}
 use mathlib.Core.Bool.{Bool, true, false, _&&_}
-use mathlib.Core.List.{List, [], _∷_, _++_, map, append-assoc, append-nil}
+use mathlib.Core.List.{List, [], _∷_, _++_, map, append-nil}
 use Prim.Native.Nat.{ℕ, zero, suc, _+_, _-_, _*_, _<_, _≤_}
 use native.Mathlib.Nat.{zero-add, add-zero, add-assoc, le-antisymm}
 use native.Mathlib.Numerals.{add-one}
@@ -9,9 +9,8 @@ use native.Mathlib.Omega.{arith}
 use borrow.Author.Tests.{le-leb, lt-leb, leb-true, leb-false}
 use lib.Dec.{leb}
 use lib.ListN.{length, getD, take, set, length-append, length-set}
-use Rattle.memtable.specs.Moves.{putAt}
-use Rattle.key.proofs.Bytes.{length-part}
-use Rattle.key.specs.Bytes.{Bytes, part, over-front, concat, total}
+use Rattle.key.proofs.Bytes.{length-part, concat-append}
+use Rattle.key.specs.Bytes.{Bytes, part, over-front, concat, total, putAt}
 use Rattle.server.specs.Session.{queueFits}
 use Rattle.server.specs.Sessions.{queueIn, sessionFrom, flagWord, sessionWords, sessionBytes}
 use Rattle.server.specs.Lent.{capped}
@@ -19,24 +18,14 @@ use Rattle.server.specs.Held.{Held}
 use Rattle.server.specs.Places.{argumentsAt, lengthsAt, PartsIn, QueueSizes, Takes, HasRoom, queuing, Appended}
 use Rattle.server.proofs.Parts.{total-append}
 use Rattle.sessions.proofs.Sums.{capped-low, capped-high}
-use Rattle.sessions.proofs.Writes.{written-none, written-more, written-set, written-one, written-first, written-second, length-written, over-behind}
+use Rattle.key.proofs.Writes.{written-none, written-more, written-set, written-one, written-first, written-second, length-written, over-behind}
 use Rattle.sessions.proofs.Kept.{front-part, data-length, queue-data-length, shape, bytes-shape, queue-count, queue-counts, queue-lengths, queue-bytes, failed-kept, watched-kept, keys-table, sequences-table, keys-data}
 use Rattle.server.proofs.PlaceLaws.{lengths-next, lengths-end, lengths-snoc, lengths-count, arguments-snoc, arguments-count, arguments-lengths}
 
 -- pieces one behind the other
-pub concat-append : {A : Type 0} (s t : List (List A)) → concat (s ++ t) ≡ concat s ++ concat t
-unfolding concat
-concat-append [] t = refl
-concat-append (x ∷ s) t = ap (λ (l : List _). x ++ l) (concat-append s t) ∙ sym (append-assoc x (concat s) (concat t))
-
 pub concat-one : {A : Type 0} (s : List (List A)) (x : List A) → concat (s ++ x ∷ []) ≡ concat s ++ x
 unfolding concat
 concat-one s x = concat-append s (x ∷ []) ∙ ap (λ (l : List _). concat s ++ l) (append-nil x)
-
-pub concat-length : {A : Type 0} (s : List (List A)) → length (concat s) ≡ total (map length s)
-unfolding concat total
-concat-length [] = refl
-concat-length (x ∷ s) = length-append x (concat s) ∙ ap (λ (n : ℕ). length x + n) (concat-length s)
 
 pub map-append : {A B : Type 0} (f : A → B) (s t : List A) → map f (s ++ t) ≡ map f s ++ map f t
 map-append f [] t = refl

@@ -5,10 +5,9 @@ use Prim.Native.Nat.{ℕ, _+_}
 use native.Mathlib.Omega.{arith}
 use borrow.Author.Tests.{le-leb}
 use lib.ListN.{length, getD, take, set, length-append, length-map, drop-of-length-le}
-use Rattle.memtable.specs.Moves.{putAt}
 use Rattle.memtable.specs.Table.{Entry}
 use Rattle.key.proofs.Bytes.{length-part}
-use Rattle.key.specs.Bytes.{Bytes, part, total}
+use Rattle.key.specs.Bytes.{Bytes, part, total, putAt}
 use Rattle.key.specs.Keys.{Key}
 use Rattle.server.specs.declared.watched.Grown.{Grown}
 use Rattle.server.specs.Session.{Watching, watchedKeys, addKeys, watchFits}
@@ -17,7 +16,7 @@ use Rattle.server.specs.Lent.{capped}
 use Rattle.server.specs.Held.{Held}
 use Rattle.server.specs.Watch.{keysOf, WatchTable, watchOf, Holding, GrownTo, AllWatched, WatchPut}
 use Rattle.sessions.proofs.Sums.{capped-low}
-use Rattle.sessions.proofs.Writes.{written-first, written-second}
+use Rattle.key.proofs.Writes.{written-first, written-second}
 use Rattle.sessions.proofs.Kept.{shape, bytes-shape, front-part, data-length, multi-kept, failed-kept, queued-kept, counts-table, lengths-table, queue-data}
 
 -- a write over the whole list

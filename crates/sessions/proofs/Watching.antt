@@ -11,11 +11,9 @@ use lib.Dec.{leb}
 use lib.ListN.{length, getD, take, drop, set, length-append, length-take, length-drop, take-append-drop}
 use lib.Seq.{slice, take-suc, drop-cons, getD-take, getD-drop, length-take-le, take-take, take-at, drop-at, drop-append-add, take-append-le, take-append-add, take-nil, drop-nil}
 use lib.ListN.{drop-of-length-le, length-map}
-use Rattle.memtable.proofs.Moves.{Moving, moving-all}
-use Rattle.memtable.specs.Moves.{putAt, movedUp}
 use Rattle.key.specs.declared.Order.{Order}
 use Rattle.key.specs.declared.Order.the-variants.{Less, Equal, Greater}
-use Rattle.key.specs.Bytes.{Bytes, part, over-front, concat, total}
+use Rattle.key.specs.Bytes.{Bytes, part, over-front, concat, total, putAt, movedUp}
 use Rattle.key.specs.Keys.{Key, compareKeys}
 use Rattle.memtable.specs.Table.{Entry}
 use Rattle.server.specs.Session.{Watching, watchedKeys, watchedSequences, addKey, addKeys, watchFits}
@@ -25,9 +23,9 @@ use Rattle.server.proofs.PlaceLaws.{arguments-next, arguments-end}
 use Rattle.server.specs.Watch.{keysOf, KeysAt, insertedAt, SpotAt, ThereAt, Spotted, Holding, GrownTo, WatchTable, watchOf}
 use Rattle.server.proofs.Parts.{split-drop, split-length, split-lengths, split-concat, over-own, total-append}
 use Rattle.server.proofs.SplitLaws.{split-back, paired-keys, paired-sequences, paired-back}
-use Rattle.sessions.proofs.Writes.{written-one}
-use Rattle.sessions.proofs.Queueing.{map-append, concat-append, concat-length}
-use Rattle.key.proofs.Bytes.{length-over-front, over-front-again}
+use Rattle.key.proofs.Writes.{written-one, Moving, moving-all}
+use Rattle.sessions.proofs.Queueing.{map-append}
+use Rattle.key.proofs.Bytes.{length-over-front, over-front-again, length-concat, concat-append}
 use Rattle.server.specs.declared.watched.Spot.{Spot}
 use Rattle.server.specs.declared.watched.Spot.the-variants as spot
 use Rattle.server.specs.declared.watched.Grown.{Grown}
@@ -431,7 +429,7 @@ module _ {js : Watching} {lens lens′ seqs seqs′ : List ℕ} {text text′ : 
   held-table a o b =
       let c : length (map length (watchedKeys js)) ≤ length lens = rw (length-map (watchedKeys js) length) (omega (arith, keys-many, h .few, h .count-is)) in
       let f : length (watchedSequences js) ≤ length seqs = rw (length-map js (λ (x : Entry ℕ). x .1)) (omega (arith, h .few)) in
-      let d : length (concat (watchedKeys js)) ≤ length text = rw (concat-length (watchedKeys js)) (omega (arith, h .short)) in
+      let d : length (concat (watchedKeys js)) ≤ length text = rw (length-concat (watchedKeys js)) (omega (arith, h .short)) in
       record {
         table = ap length (h .table) ∙ length-over-front (map length (watchedKeys js)) lens c ∙ a;
         sequences = ap length (h .sequences) ∙ length-over-front (watchedSequences js) seqs f ∙ o;
@@ -458,7 +456,7 @@ holding-then {js} {ks} {l₀} {l₁} {l₂} {s₀} {s₁} {s₂} {t₀} {t₁} {
           ∙ over-front-again (map length (watchedKeys ks)) (map length (watchedKeys js)) l₀ (rw (length-map (watchedKeys js) length, length-map (watchedKeys ks) length) (p .keys));
       sequences = b .sequences ∙ ap (over-front (watchedSequences ks)) (a .sequences) ∙ over-front-again (watchedSequences ks) (watchedSequences js) s₀ (omega (arith, p .keys, jk, kk, js′, ks′));
       bytes = b .bytes ∙ ap (over-front (concat (watchedKeys ks))) (a .bytes)
-          ∙ over-front-again (concat (watchedKeys ks)) (concat (watchedKeys js)) t₀ (rw (concat-length (watchedKeys js), concat-length (watchedKeys ks)) (p .bytes));
+          ∙ over-front-again (concat (watchedKeys ks)) (concat (watchedKeys js)) t₀ (rw (length-concat (watchedKeys js), length-concat (watchedKeys ks)) (p .bytes));
     }
 
 -- THE WALK OVER THE KEYS of the places from `from` to `to`: those before i are added.

@@ -8,7 +8,8 @@ ghost use lib.ListN.{length, set};
 ghost use Rattle.memtable.specs.Versions.{bytesOf};
 ghost use Rattle.memtable.specs.Layout.{startWord, keyWord, valueWord, seqWord, wordOfValue};
 ghost use Rattle.memtable.specs.Rows.{valueIf};
-ghost use Rattle.memtable.specs.Moves.{movedUp, putAt, rowsMoved};
+ghost use Rattle.key.specs.Bytes.{putAt};
+ghost use Rattle.memtable.specs.Moves.{rowsMoved};
 ghost use Rattle.memtable.specs.Merging.{Mergeable, startIn, rowMerged, bytesMerged, frontAfter, wordsAfter, bytesAfter};
 
 // Where the version at place `at` of the front starts, or would.
@@ -22,29 +23,12 @@ fn start_in(words: &[u64], at: usize, rows: usize, used: usize) -> usize
     used
 }
 
-// Moves the bytes from `from` up to `to` by `by` places, the last first.
-pub fn shift_up(a: &mut [u8], from: usize, to: usize, by: usize)
-    requires { ⌜ from ≤ to ⌝ }
-    requires { ⌜ to + by ≤ length (now a) ⌝ }
-    ensures { λ _. ⌜ now (a .exit) ≡ movedUp from to by (now (a .entry)) ⌝ }
-{
-    let mut j = to;
-    while from < j {
-        j -= 1;
-        a[j + by] = a[j];
-    }
-}
-
 // Writes `src` into `dst` at `at`.
 pub fn put(dst: &mut [u8], at: usize, src: &[u8])
     requires { ⌜ at + length (now src) ≤ length (now dst) ⌝ }
     ensures { λ _. ⌜ now (dst .exit) ≡ putAt at (now (src .entry)) (now (dst .entry)) ⌝ }
 {
-    let mut i = 0;
-    while i < src.len() {
-        dst[at + i] = src[i];
-        i += 1;
-    }
+    writing::put_at(dst, at, src);
 }
 
 // Writes the four words of a version at `at`.
@@ -131,9 +115,9 @@ fn merge_bytes(
     ensures { λ _. ⌜ now (bytes .exit) ≡ bytesMerged start used gap rest (now (name .entry)) (now (value .entry)) (now (bytes .entry)) ⌝ }
 {
     let at = start + rest;
-    shift_up(bytes, start, used, gap);
-    put(bytes, at, name);
-    put(bytes, at + name.len(), value);
+    writing::shift_up(bytes, start, used, gap);
+    writing::put_at(bytes, at, name);
+    writing::put_at(bytes, at + name.len(), value);
 }
 
 // The value word of what is written: 0 of a tombstone.

@@ -3,14 +3,12 @@ use key::Order;
 use memtable::read;
 use server::watched::Grown;
 use server::watched::Spot;
-use store::merge;
 ghost use mathlib.Core.Path.{_≡_};
 ghost use mathlib.Core.List.{[], _∷_};
 ghost use Prim.Native.Nat.{_+_, _-_, _≤_};
 ghost use lib.ListN.{length, take};
-ghost use Rattle.memtable.specs.Moves.{putAt};
 ghost use Rattle.memtable.specs.Rows.{Valid, versionsIn};
-ghost use Rattle.key.specs.Bytes.{part, over-front};
+ghost use Rattle.key.specs.Bytes.{part, over-front, putAt};
 ghost use Rattle.server.specs.Session.{addKey, addKeys, anyMoved};
 ghost use Rattle.server.specs.Sessions.{sessionFrom};
 ghost use Rattle.server.specs.Lent.{OneSession};
@@ -57,8 +55,8 @@ fn insert_bytes(text: &mut [u8], at: usize, used: usize, name: &[u8])
     requires { ⌜ (at ≤ used) × (used + length (now name) ≤ length (now text)) ⌝ }
     ensures { λ _. ⌜ now (text .exit) ≡ over-front (insertedAt at (now (name .entry)) (take used (now (text .entry)))) (now (text .entry)) ⌝ }
 {
-    merge::shift_up(text, at, used, name.len());
-    merge::put(text, at, name);
+    writing::shift_up(text, at, used, name.len());
+    writing::put_at(text, at, name);
 }
 
 // Adds a key with the sequence `last` in its place, unless it is there; `Full` if there is no room for it.
@@ -163,7 +161,7 @@ pub fn grow(
     let used = sessions::sum_within(words, 4, watched, 2048);
     put_words(lens, 0, &words[4..36]);
     put_words(seqs, 0, &words[36..68]);
-    merge::put(text, 0, &bytes[0..2048]);
+    writing::put_at(text, 0, &bytes[0..2048]);
     add_keys(
         lens,
         seqs,
@@ -193,7 +191,7 @@ pub fn keep(
 {
     put_words(words, 4, lens);
     put_words(words, 36, seqs);
-    merge::put(bytes, 0, text);
+    writing::put_at(bytes, 0, text);
     words[2] = count as u64;
 }
 

@@ -33,17 +33,17 @@ word-requires-2 c κs = search needs
 add-end : tie.Need-add-end Inv-loop μ-loop
 add-end c = omega (arith, next-inside (c .before .before .before .loop .inv) (c .before .before .before .before .before .before .before .pre .0) (c .before .before .loop-test .taken))
 
-sub-put : tie.Need-sub-put Inv-loop μ-loop
-sub-put c = omega arith
+sub-put-at : tie.Need-sub-put-at Inv-loop μ-loop
+sub-put-at c = omega arith
 
-part-put-start : tie.Need-part-put-start Inv-loop μ-loop
-part-put-start c = omega arith
+part-put-at-start : tie.Need-part-put-at-start Inv-loop μ-loop
+part-put-at-start c = omega arith
 
-part-put-end : tie.Need-part-put-end Inv-loop μ-loop
-part-put-end c = omega (arith, next-inside (c .before .before .before .before .loop .inv) (c .before .before .before .before .before .before .before .before .pre .0) (c .before .before .before .loop-test .taken))
+part-put-at-end : tie.Need-part-put-at-end Inv-loop μ-loop
+part-put-at-end c = omega (arith, next-inside (c .before .before .before .before .loop .inv) (c .before .before .before .before .before .before .before .before .pre .0) (c .before .before .before .loop-test .taken))
 
-put-requires : tie.Need-put-requires Inv-loop μ-loop
-put-requires c κs = put-room (c .before .before .before .before .before .loop .inv) (c .before .before .before .before .before .before .before .before .before .pre .0) (c .before .before .before .word .ensures) (c .before .before .word2 .ensures) (c .before .before .before .before .loop-test .taken) (c .before .before .before .before .before .before .before .before .before .pre .1)
+put-at-requires : tie.Need-put-at-requires Inv-loop μ-loop
+put-at-requires c κs = put-room (c .before .before .before .before .before .loop .inv) (c .before .before .before .before .before .before .before .before .before .pre .0) (c .before .before .before .word .ensures) (c .before .before .word2 .ensures) (c .before .before .before .before .loop-test .taken) (c .before .before .before .before .before .before .before .before .before .pre .1)
 
 add-pos : tie.Need-add-pos Inv-loop μ-loop
 add-pos c = omega (arith, next-place (c .before .before .before .before .before .before .before .before .loop .inv) (c .before .before .before .before .before .before .before .before .before .before .before .before .pre .0) (c .before .before .before .before .before .before .before .loop-test .taken) (c .before .before .before .before .before .before .before .before .before .before .before .before .pre .1))
@@ -64,4 +64,4 @@ returns : tie.Need-returns Inv-loop μ-loop
 returns c = search stored-all
 
 pub put-arguments-spec : {M : Type 1} → statement M
-put-arguments-spec = tie.close (tie.spec Inv-loop μ-loop loop-holds mul-word word-requires mul-word-2 add-word word-requires-2 add-end sub-put part-put-start part-put-end put-requires add-pos add-i loop-less loop-again same-length returns)
+put-arguments-spec = tie.close (tie.spec Inv-loop μ-loop loop-holds mul-word word-requires mul-word-2 add-word word-requires-2 add-end sub-put-at part-put-at-start part-put-at-end put-at-requires add-pos add-i loop-less loop-again same-length returns)

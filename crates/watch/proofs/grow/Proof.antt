@@ -36,22 +36,22 @@ part-put-words-end-2 c = search needs
 put-words-requires-2 : tie.Need-put-words-requires-2
 put-words-requires-2 c κs = search needs
 
-sub-put : tie.Need-sub-put
-sub-put c = search needs
+sub-put-at : tie.Need-sub-put-at
+sub-put-at c = search needs
 
-part-put-start : tie.Need-part-put-start
-part-put-start c = search needs
+part-put-at-start : tie.Need-part-put-at-start
+part-put-at-start c = search needs
 
-part-put-end : tie.Need-part-put-end
-part-put-end c = search needs
+part-put-at-end : tie.Need-part-put-at-end
+part-put-at-end c = search needs
 
-put-requires : tie.Need-put-requires
-put-requires c κs = search needs
+put-at-requires : tie.Need-put-at-requires
+put-at-requires c κs = search needs
 
 add-keys-requires : tie.Need-add-keys-requires
 add-keys-requires c κs =
     let start = c .before .before .before .before .before .before .before .before .before .before .before .before .before .before .before .before .before .before .before .before .before .before .before .before .before .before .before in (
-      copied-table (start .pre .0) (c .before .before .before .before .before .before .before .before .before .before .before .before .before .before .before .before .before .before .before .word .ensures) (c .before .before .before .before .before .before .before .before .before .before .before .before .before .before .before .before .before .before .sum-within .ensures) _ _ _ (start .pre .1 .1 .1) (start .pre .1 .1 .2) (start .pre .1 .1 .3) (c .before .before .before .before .before .before .before .before .before .before .before .before .before .before .before .put-words .ensures) (c .before .before .before .before .before .before .before .before .before .before .put-words2 .ensures) (c .before .before .before .before .before .put .ensures),
+      copied-table (start .pre .0) (c .before .before .before .before .before .before .before .before .before .before .before .before .before .before .before .before .before .before .before .word .ensures) (c .before .before .before .before .before .before .before .before .before .before .before .before .before .before .before .before .before .before .sum-within .ensures) _ _ _ (start .pre .1 .1 .1) (start .pre .1 .1 .2) (start .pre .1 .1 .3) (c .before .before .before .before .before .before .before .before .before .before .before .before .before .before .before .put-words .ensures) (c .before .before .before .before .before .before .before .before .before .before .put-words2 .ensures) (c .before .before .before .before .before .put-at .ensures),
       (start .pre .1 .0, start .pre .1 .1 .0),
     )
 
@@ -68,7 +68,7 @@ returns : tie.Need-returns
 returns c =
     let start = c .before .before .before .before .before .before .before .before .before .before .before .before .before .before .before .before .before .before .before .before .before .before .before .before .before .before .before .before .before .before .before .before .before .before in
     let added = c .before .before .before .before .before .before .add-keys in
-    copied-grown (start .pre .0) (c .before .before .before .before .before .before .before .before .before .before .before .before .before .before .before .before .before .before .before .before .before .before .before .before .before .before .word .ensures) (c .before .before .before .before .before .before .before .before .before .before .before .before .before .before .before .before .before .before .before .before .before .before .before .before .before .sum-within .ensures) _ _ _ (start .pre .1 .1 .1) (start .pre .1 .1 .2) (start .pre .1 .1 .3) (c .before .before .before .before .before .before .before .before .before .before .before .before .before .before .before .before .before .before .before .before .before .before .put-words .ensures) (c .before .before .before .before .before .before .before .before .before .before .before .before .before .before .before .before .before .put-words2 .ensures) (c .before .before .before .before .before .before .before .before .before .before .before .before .put .ensures)
+    copied-grown (start .pre .0) (c .before .before .before .before .before .before .before .before .before .before .before .before .before .before .before .before .before .before .before .before .before .before .before .before .before .before .word .ensures) (c .before .before .before .before .before .before .before .before .before .before .before .before .before .before .before .before .before .before .before .before .before .before .before .before .before .sum-within .ensures) _ _ _ (start .pre .1 .1 .1) (start .pre .1 .1 .2) (start .pre .1 .1 .3) (c .before .before .before .before .before .before .before .before .before .before .before .before .before .before .before .before .before .before .before .before .before .before .put-words .ensures) (c .before .before .before .before .before .before .before .before .before .before .before .before .before .before .before .before .before .put-words2 .ensures) (c .before .before .before .before .before .before .before .before .before .before .before .before .put-at .ensures)
     (start .args .last) (argumentsAt 1 (start .args .count - 1) (start .args .places .now) (start .args .input .now)) (added .last .0) (added .last .1 .0) (added .last .1 .1 .0) (added .result) (added .ensures)
 
 pub grow-spec : {M : Type 1} → statement M
@@ -85,10 +85,10 @@ grow-spec =
     part-put-words-start-2
     part-put-words-end-2
     put-words-requires-2
-    sub-put
-    part-put-start
-    part-put-end
-    put-requires
+    sub-put-at
+    part-put-at-start
+    part-put-at-end
+    put-at-requires
     add-keys-requires
     same-length
     same-length-2

@@ -7,8 +7,8 @@ use Rattle.watch.proofs.insert_bytes.Tie as tie
 shift-up-requires : tie.Need-shift-up-requires
 shift-up-requires c κs = search needs
 
-put-requires : tie.Need-put-requires
-put-requires c κs = search needs
+put-at-requires : tie.Need-put-at-requires
+put-at-requires c κs = search needs
 
 same-length : tie.Need-same-length
 same-length c = search needs
@@ -17,4 +17,4 @@ returns : tie.Need-returns
 returns c = search bytes-inserted
 
 pub insert-bytes-spec : {M : Type 1} → statement M
-insert-bytes-spec = tie.close (tie.spec shift-up-requires put-requires same-length returns)
+insert-bytes-spec = tie.close (tie.spec shift-up-requires put-at-requires same-length returns)

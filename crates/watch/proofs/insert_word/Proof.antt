@@ -1,6 +1,6 @@
 -- `watch::insert_word` meets its contract. The invariant: all words from j on have been moved, `Moving`. The measure is j. Assumes nothing.
 use borrow.Author.Needs.{needs}
-use Rattle.memtable.proofs.Moves.{Moving, moving-none, moving-more}
+use Rattle.key.proofs.Writes.{Moving, moving-none, moving-more}
 use Rattle.sessions.proofs.Watching.{word-inserted}
 use Rattle.watch.proofs.insert_word.Statement.{statement}
 use Rattle.watch.proofs.insert_word.Tie as tie

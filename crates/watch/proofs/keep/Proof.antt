@@ -12,8 +12,8 @@ put-words-requires c κs = search needs
 put-words-requires-2 : tie.Need-put-words-requires-2
 put-words-requires-2 c κs = search needs
 
-put-requires : tie.Need-put-requires
-put-requires c κs = search needs
+put-at-requires : tie.Need-put-at-requires
+put-at-requires c κs = search needs
 
 slice-write-words : tie.Need-slice-write-words
 slice-write-words c = search needs
@@ -33,7 +33,7 @@ keep-spec =
     (tie.spec
     put-words-requires
     put-words-requires-2
-    put-requires
+    put-at-requires
     slice-write-words
     same-length
     same-length-2

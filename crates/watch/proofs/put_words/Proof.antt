@@ -2,7 +2,7 @@
 use Prim.Native.Nat.{_-_}
 use borrow.Author.Needs.{needs}
 use lib.ListN.{length}
-use Rattle.memtable.proofs.Moves.{Putting, putting-none, putting-more, putting-all}
+use Rattle.key.proofs.Writes.{Putting, putting-none, putting-more, putting-all}
 use Rattle.watch.proofs.put_words.Statement.{statement}
 use Rattle.watch.proofs.put_words.Tie as tie
 

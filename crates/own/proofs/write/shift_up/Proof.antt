@@ -1,7 +1,7 @@
 -- `own::write::shift_up` meets its contract. The invariant: all words from j on have been moved, `Moving`. The measure is j. Assumes nothing.
 use Prim.Native.Nat.{_*_}
 use native.Mathlib.Omega.{arith}
-use Rattle.memtable.proofs.Moves.{Moving, moving-none, moving-more, moving-all}
+use Rattle.key.proofs.Writes.{Moving, moving-none, moving-more, moving-all}
 use borrow.Author.Needs.{needs}
 use Rattle.own.proofs.write.shift_up.Statement.{statement}
 use Rattle.own.proofs.write.shift_up.Tie as tie

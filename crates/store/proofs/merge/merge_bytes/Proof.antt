@@ -10,14 +10,14 @@ add-at c = search needs
 shift-up-requires : tie.Need-shift-up-requires
 shift-up-requires c κs = search needs
 
-put-requires : tie.Need-put-requires
-put-requires c κs = search needs
+put-at-requires : tie.Need-put-at-requires
+put-at-requires c κs = search needs
 
-add-put : tie.Need-add-put
-add-put c = search needs
+add-put-at : tie.Need-add-put-at
+add-put-at c = search needs
 
-put-requires-2 : tie.Need-put-requires-2
-put-requires-2 c κs = search needs
+put-at-requires-2 : tie.Need-put-at-requires-2
+put-at-requires-2 c κs = search needs
 
 same-length : tie.Need-same-length
 same-length c = search needs
@@ -28,4 +28,4 @@ returns c = search bytes-merged
 pub merge-bytes-spec : {M : Type 1} → statement M
 merge-bytes-spec =
     tie.close
-    (tie.spec add-at shift-up-requires put-requires add-put put-requires-2 same-length returns)
+    (tie.spec add-at shift-up-requires put-at-requires add-put-at put-at-requires-2 same-length returns)

@@ -1,8 +1,8 @@
--- `store::merge::shift_up` meets its contract. The invariant: all bytes from j on have been moved, `Moving`. The measure is j. Assumes nothing.
+-- `writing::shift_up` meets its contract. The invariant: all bytes from j on have been moved, `Moving`. The measure is j. Assumes nothing.
 use borrow.Author.Needs.{needs}
-use Rattle.memtable.proofs.Moves.{Moving, moving-none, moving-more, moving-all}
-use Rattle.store.proofs.merge.shift_up.Statement.{statement}
-use Rattle.store.proofs.merge.shift_up.Tie as tie
+use Rattle.key.proofs.Writes.{Moving, moving-none, moving-more, moving-all}
+use Rattle.writing.proofs.shift_up.Statement.{statement}
+use Rattle.writing.proofs.shift_up.Tie as tie
 
 abbrev Inv-loop : tie.InvT-loop
 Inv-loop a₀ from to by j₀ a j = Moving a₀ from to by a j

@@ -1,15 +1,15 @@
--- Laws of writing into a list. Assumes nothing.
-use mathlib.Core.Path.{_≡_, sym, ap, _∙_}
+-- Laws of lists into which something is written or in which something moves up. Assumes nothing.
+use mathlib.Core.Path.{_≡_, refl, sym, ap, _∙_}
 use mathlib.Core.List.{List, [], _∷_, _++_, append-assoc}
-use Prim.Native.Nat.{ℕ, _+_, _<_, _≤_}
-use native.Mathlib.Nat.{add-zero, add-assoc}
+use Prim.Native.Nat.{ℕ, suc, _+_, _-_, _<_, _≤_}
+use native.Mathlib.Nat.{suc-add, add-zero, add-assoc, le-antisymm}
 use native.Mathlib.Numerals.{add-one}
 use native.Mathlib.Omega.{arith}
-use lib.ListN.{length, take, drop, set, length-take, length-drop, length-append, take-append-drop}
-use lib.Seq.{drop-drop, length-take-le, take-at, drop-at, take-append-le, drop-append-le, take-append-add, drop-append-add, set-split}
-use Rattle.memtable.specs.Moves.{putAt}
-use Rattle.key.specs.Bytes.{over-front}
+use lib.ListN.{length, getD, take, drop, set, length-set, length-take, length-drop, length-append, take-append-drop, List·getD-append}
+use lib.Seq.{slice, slice-cons, slice-empty, take-suc, set-at, getD-take, paste, paste-zero, paste-suc, take-length, drop-drop, length-take-le, take-at, drop-at, take-append-le, drop-append-le, take-append-add, drop-append-add, set-split}
+use Rattle.key.specs.Bytes.{over-front, putAt, movedUp}
 
+-- WRITTEN
 module _ {A : Type 0} where
   pub written-none : (at : ℕ) (l : List A) → putAt at [] l ≡ l
   unfolding putAt
@@ -71,3 +71,84 @@ module _ {A : Type 0} where
   over-behind n u l h =
       ap (λ (k : ℕ). (take n l ++ u) ++ drop k l) (length-append (take n l) u ∙ ap (λ (k : ℕ). k + length u) (length-take-le n l h))
       ∙ append-assoc (take n l) u (drop (n + length u) l)
+
+-- the walk that writes: the first i have been written
+pub record Putting (d : List ℕ) (at : ℕ) (s a : List ℕ) (i : ℕ) : Type 0 where
+  pub within : i ≤ length s
+  pub is : a ≡ paste d at s i
+  pub same : length a ≡ length d
+
+pub putting-none : (d : List ℕ) (at : ℕ) (s : List ℕ) → Putting d at s d 0
+putting-none d at s = record { within = omega arith; is = paste-zero d at s; same = refl }
+
+module _ {d : List ℕ} {at : ℕ} {s a : List ℕ} {i : ℕ} (p : Putting d at s a i) where
+  pub putting-more : at + length s ≤ length d → i < length s → Putting d at s (set a (at + i) (getD s i 0)) (i + 1)
+  putting-more room h = record {
+    within = omega arith;
+    is = rw (p .is, add-one) (paste-suc d at s i 0 (omega arith) h);
+    same = length-set a _ _ ∙ p .same;
+  }
+
+  pub putting-all : length s ≤ i → a ≡ putAt at s d
+  unfolding putAt
+  putting-all h = rw (p .is, le-antisymm (p .within) h, take-length, append-assoc)
+
+-- MOVED UP
+-- a step of the move: the element at i goes up, where all from suc i on have gone
+module _ (l : List ℕ) (to by i : ℕ) (h : i < to) (room : to + by ≤ length l) where
+  rest : List ℕ
+  rest = slice (suc i) to l ++ drop (to + by) l
+
+  read-is : getD (movedUp (suc i) to by l) i 0 ≡ getD l i 0
+  unfolding movedUp
+  read-is =
+      List·getD-append (take (suc i + by) l) _ 0 i (rw (length-take-le (suc i + by) l (omega arith)) (omega arith))
+      ∙ getD-take (suc i + by) l i 0 (omega arith)
+
+  spread : movedUp (suc i) to by l ≡ take (i + by) l ++ (getD l (i + by) 0 ∷ rest)
+  unfolding movedUp rest
+  spread =
+      ap (λ (x : List ℕ). x ++ rest) (ap (λ (n : ℕ). take n l) (suc-add i by) ∙ take-suc l (i + by) 0 (omega arith))
+      ∙ append-assoc (take (i + by) l) (getD l (i + by) 0 ∷ []) rest
+
+  pub moved-step : set (movedUp (suc i) to by l) (i + by) (getD (movedUp (suc i) to by l) i 0) ≡ movedUp i to by l
+  unfolding movedUp rest
+  moved-step =
+      rw (read-is, spread)
+      (set-at (take (i + by) l) _ rest (getD l i 0) (i + by) (length-take-le (i + by) l (omega arith))
+      ∙ ap (λ (x : List ℕ). take (i + by) l ++ (x ++ drop (to + by) l)) (sym (slice-cons i to l 0 h (omega arith))))
+
+pub length-moved : (l : List ℕ) (from to by : ℕ) → from ≤ to → to + by ≤ length l → length (movedUp from to by l) ≡ length l
+unfolding movedUp
+length-moved l from to by h k = simp (length-append, length-take, length-drop) (omega arith)
+
+-- the walk that moves: all from j up to `to` have been moved
+pub record Moving (l : List ℕ) (from to by : ℕ) (a : List ℕ) (j : ℕ) : Type 0 where
+  pub low : from ≤ j
+  pub high : j ≤ to
+  pub is : a ≡ movedUp j to by l
+  pub same : length a ≡ length l
+
+pub moving-none : (l : List ℕ) (from to by : ℕ) → from ≤ to → Moving l from to by l to
+unfolding movedUp
+moving-none l from to by h = record {
+  low = h;
+  high = omega arith;
+  is = sym (simp slice-empty (take-append-drop (to + by) l));
+  same = refl;
+}
+
+module _ {l : List ℕ} {from to by : ℕ} {a : List ℕ} {j : ℕ} (m : Moving l from to by a j) where
+  pub moving-more : to + by ≤ length l → from < j → Moving l from to by (set a (j - 1 + by) (getD a (j - 1) 0)) (j - 1)
+  moving-more room h =
+      let e : j ≡ suc (j - 1) = omega arith in
+      let q : a ≡ movedUp (suc (j - 1)) to by l = m .is ∙ ap (λ (x : ℕ). movedUp x to by l) e in
+      record {
+        low = omega arith;
+        high = omega arith;
+        is = rw q (moved-step l to by (j - 1) (omega arith) room);
+        same = length-set a _ _ ∙ m .same;
+      }
+
+  pub moving-all : j ≤ from → a ≡ movedUp from to by l
+  moving-all h = m .is ∙ ap (λ (x : ℕ). movedUp x to by l) (le-antisymm h (m .low))
