@@ -1,84 +1,32 @@
 -- A line: the calls that answer it put exactly the line of the definition. Assumes nothing.
 use Prim.Native.Nat.{ℕ, zero, suc, _+_, _-_, _*_, _≤_, _<_}
 use native.Mathlib.Omega.{arith}
-use mathlib.Core.Path.{_≡_, refl, sym, ap, ap₂, _∙_}
+use mathlib.Core.Path.{_≡_, refl, sym, ap, _∙_}
 use mathlib.Core.Bool.{Bool, true, false, cond}
-use mathlib.Core.List.{List, [], _∷_, _++_, append-assoc}
+use mathlib.Core.List.{List, [], _∷_, _++_}
 use mathlib.Core.Option.{Option, none, some}
 use lib.Dec.{ltb}
 use lib.ListN.{length, take, drop, set}
 use lib.Seq.{drop-drop, take-all}
 use borrow.Author.Tests.{ltb-true, ltb-false}
 use Rattle.key.specs.Bytes.{Bytes, part}
-use Rattle.calls.specs.Calls.{Lent, valid}
+use Rattle.calls.specs.Calls.{Lent}
 use Rattle.calls.specs.Frames as F
 use Rattle.lines.specs.declared.pieces.Mark.{Mark}
 use Rattle.console.specs.declared.serve.Progress.{Progress}
+use Rattle.console.specs.declared.frame.Begun.{Begun}
 use Rattle.console.specs.declared.frame.Begun.the-variants.{Answered as Put, Serve}
 use Rattle.lines.specs.Pieces.{headText, endText}
 use Rattle.lines.specs.Held.{countAt, heldAt, restsIn}
 use Rattle.lines.specs.Rest.{restOf}
 use Rattle.console.specs.Page.{Added}
-use Rattle.lines.specs.Served.{stateIn, requestsLeft, orSome, Serving, FrameServed, markAfter, Answered}
-use Rattle.console.specs.Steps.{Paused, Over, Reached, SomeServed}
-use Rattle.console.specs.Lines.{refusedText, beginText, begunAs, Begins, restIn}
-use Rattle.console.specs.Turns.{outputOf, consoleIn, Turns, over, again, FrameCalls, LineCalls, answered, served, LineAnswered}
+use Rattle.lines.specs.Served.{stateIn, FrameServed, markAfter, Answered}
+use Rattle.console.specs.Lines.{refusedText, beginText, begunAs, Begins, restIn, Ends}
+use Rattle.console.specs.Answers.{consoleIn, Output, TurnsServed, LineAnswered}
 use Rattle.lines.proofs.HeldLaws.{rest-of, rests-many}
-use Rattle.lines.proofs.ServedLaws.{serving-last}
 use Rattle.lines.proofs.FrameLaws.{frame-answered, frame-refused, malformed-line}
 use Rattle.console.proofs.BeginLaws.{given-bounds}
-
--- THE OUTPUT in front of the page
-some-behind : (w : Bytes) {i : ℕ} {s t s′ t′ : Bytes} {l l′ : Lent} {b b′ : Bool} → Serving i s l b t s′ l′ b′ t′ → Serving i s l b (w ++ t) s′ l′ b′ (w ++ t′)
-some-behind w {t = t} x = record {
-  replies = x .replies;
-  fit = x .fit;
-  told = x .told;
-  text = ap (λ (u : Bytes). w ++ u) (x .text) ∙ sym (append-assoc w t (F.hex (x .replies)));
-  is = x .is;
-}
-
-all-behind : (w : Bytes) {i : ℕ} {s t rest t′ : Bytes} {l l′ : Lent} {b b′ : Bool} {mark : Mark} → FrameServed i s l b t mark rest l′ b′ t′ → FrameServed i s l b (w ++ t) mark rest l′ b′ (w ++ t′)
-all-behind w {t = t} x = record {
-  replies = x .replies;
-  fit = x .fit;
-  told = x .told;
-  text = ap (λ (u : Bytes). w ++ u) (x .text) ∙ sym (append-assoc w t (F.hex (x .replies)));
-  is = x .is;
-}
-
--- the same from what is equal
-served-from : {i : ℕ} {s s₁ t t₁ rest t′ : Bytes} {l l′ : Lent} {b b₁ b′ : Bool} {mark : Mark} → FrameServed i s l b t mark rest l′ b′ t′ → s ≡ s₁ → b ≡ b₁ → t ≡ t₁ → FrameServed i s₁ l b₁ t₁ mark rest l′ b′ t′
-served-from {i} {l = l} x es eb et = record {
-  replies = x .replies;
-  fit = x .fit;
-  told = x .told ∙ ap (λ (c : Bool). orSome c (x .replies)) eb;
-  text = x .text ∙ ap (λ (u : Bytes). u ++ F.hex (x .replies)) et;
-  is = ap (λ (u : Bytes). requestsLeft i u l) (sym es) ∙ x .is;
-}
-
--- THE TURNS
-paused-is : {i from₀ filled₀ : ℕ} {held page page′ : Bytes} {replied₀ : Bool} {l l′ : Lent} {r : Progress} → SomeServed i held from₀ replied₀ filled₀ page l r page′ l′ → r .full ≡ true → Paused i held from₀ replied₀ filled₀ page l r page′ l′
-unfolding Reached
-paused-is {i} {from₀} {filled₀} {held} {page} {page′} {replied₀} {l} {l′} {r} x e = go (r .full) e (x .reached)
-  where
-    go : (b : Bool) → b ≡ true → Reached b i held from₀ replied₀ filled₀ page l r page′ l′ → Paused i held from₀ replied₀ filled₀ page l r page′ l′
-    go true e y = y
-    go false e y = let z : _≡_ {A = ℕ} 0 1 = cc in absurd (omega arith)
-
-over-is : {i from₀ filled₀ : ℕ} {held page page′ : Bytes} {replied₀ : Bool} {l l′ : Lent} {r : Progress} → SomeServed i held from₀ replied₀ filled₀ page l r page′ l′ → r .full ≡ false → Over i held from₀ replied₀ filled₀ page l r page′ l′
-unfolding Reached
-over-is {i} {from₀} {filled₀} {held} {page} {page′} {replied₀} {l} {l′} {r} x e = go (r .full) e (x .reached)
-  where
-    go : (b : Bool) → b ≡ false → Reached b i held from₀ replied₀ filled₀ page l r page′ l′ → Over i held from₀ replied₀ filled₀ page l r page′ l′
-    go false e y = y
-    go true e y = let z : _≡_ {A = ℕ} 0 1 = cc in absurd (omega arith)
-
-pub turns-served : {i : ℕ} {held w page w′ page′ : Bytes} {at at′ : Progress} {l l′ : Lent} → Turns i held w at page l w′ at′ page′ l′
-    → FrameServed i (drop (at .from) held) l (at .replied) (outputOf w (at .filled) page) (at′ .mark) (drop (at′ .from) held) l′ (at′ .replied) (outputOf w′ (at′ .filled) page′)
-turns-served (over w page page′ at at′ l l′ x e) = all-behind w (over-is x e .served)
-turns-served {held = held} (again w w₁ w′ page page₁ page₂ page′ at at₁ at₂ at′ l l₁ l′ x e f g o more) =
-    serving-last (some-behind w (paused-is x e .served)) (served-from (turns-served more) (ap (λ (k : ℕ). drop k held) f) g o)
+use Rattle.console.proofs.OutputLaws.{output-page, output-more}
 
 -- THE REST of a frame is behind the bytes that are done with
 drop-front : (k n : ℕ) (l : Bytes) → drop k (take n l) ≡ take (n - k) (drop k l)
@@ -90,47 +38,55 @@ drop-front (suc k) (suc n) (x ∷ l) = let e : n - k ≡ suc n - suc k = omega a
 rest-is : (i from to : ℕ) (held : Bytes) → restIn i from to held ≡ drop from (part (i * 8192) to held)
 rest-is i from to held = ap (take (to - from)) (sym (drop-drop from (i * 8192) held)) ∙ sym (drop-front from to (drop (i * 8192) held))
 
--- a text behind the output
-put-behind : (w : Bytes) {text page page′ : Bytes} {filled filled′ : ℕ} → Added text filled page filled′ page′ → outputOf w filled′ page′ ≡ outputOf w filled page ++ text
-put-behind w {text} {page} {filled = filled} a = ap (λ (u : Bytes). w ++ u) (a .front) ∙ sym (append-assoc w (take filled page) text)
+-- the same from what is equal
+served-from : {i : ℕ} {s t t₁ rest rest₁ t′ : Bytes} {l l′ : Lent} {b b′ : Bool} {mark : Mark} → FrameServed i s l b t mark rest l′ b′ t′ → t ≡ t₁ → rest ≡ rest₁ → FrameServed i s l b t₁ mark rest₁ l′ b′ t′
+served-from {i} {s} {t′ = t′} {l = l} {l′} {b} {b′} {mark} x et er = coe 0 1 (z. FrameServed i s l b (et z) mark (er z) l′ b′ t′) x
 
 -- THE LINE
-by-line : {line : Bytes} {o : Option F.Given} {c c′ : F.Console} {t t′ : Bytes} → F.given line ≡ o → Answered o c t c′ t′ → LineAnswered line c t c′ t′
+by-line : (filled : ℕ) (page : Bytes) {line : Bytes} {o : Option F.Given} {c c′ : F.Console} {page′ t′ : Bytes} {filled′ : ℕ} → F.given line ≡ o → Answered o c (take filled page) c′ t′ → Output t′ filled′ page′ → LineAnswered line c filled page c′ filled′ page′
 unfolding F.frame
-by-line {line} {o} {c} {c′} {t} {t′} e a = record {
-  out = a .out ∙ ap (λ (g : Option F.Given). t ++ (F.answerGiven g c .out ++ 10 ∷ [])) (sym e);
-  console = ap (λ (g : Option F.Given). F.answerGiven g c .console) e ∙ a .console;
+by-line filled page {o = o} {c} e a p = record {
+  output = record {
+    written = p .written;
+    is = ap (λ (g : Option F.Given). take filled page ++ (F.answerGiven g c .out ++ 10 ∷ [])) e ∙ sym (a .out) ∙ p .is;
+  };
+  console = sym (a .console) ∙ ap (λ (g : Option F.Given). F.answerGiven g c .console) (sym e);
 }
+
+-- the console, by what the sessions hold
+console-is : (l : Lent) (counts : List ℕ) (held : Bytes) {rests : List Bytes} → restsIn counts held ≡ rests → consoleIn l counts held ≡ record { state = stateIn l; rests = rests }
+unfolding consoleIn
+console-is l counts held e = ap (λ (r : List Bytes). record { state = stateIn l; rests = r }) e
 
 -- a session above 15
 refused-line : (g : F.Given) (c : F.Console) (t : Bytes) → 16 ≤ g .session → 1 ≤ length (g .input) → length (c .rests) ≡ 16 → Answered (some g) c t c (t ++ refusedText (g .session))
 unfolding refusedText
 refused-line g c t above some-bytes many = frame-refused g c above some-bytes many t
 
-module _ (l : Lent) (counts : List ℕ) (held : Bytes) {line page page′ held′ : Bytes} {filled n : ℕ} (w : Bytes) (b : Begins line filled page counts held (Put n) page′ held′) where
+module _ (l : Lent) (counts : List ℕ) (held : Bytes) {line page page′ held′ : Bytes} {filled n : ℕ} (b : Begins line filled page counts held (Put n) page′ held′) where
   same-console : consoleIn l counts held ≡ consoleIn l counts held′
   unfolding consoleIn
   same-console = ap (λ (r : List Bytes). record { state = stateIn l; rests = r }) (sym (b .rests))
 
-  whole-line : (o : Option F.Given) {text : Bytes} → F.given line ≡ o → Added text filled page n page′ → Answered o (consoleIn l counts held) (outputOf w filled page) (consoleIn l counts held) (outputOf w filled page ++ text) → LineAnswered line (consoleIn l counts held) (outputOf w filled page) (consoleIn l counts held′) (outputOf w n page′)
+  whole-line : (o : Option F.Given) {text : Bytes} → F.given line ≡ o → Added text filled page n page′ → Answered o (consoleIn l counts held) (take filled page) (consoleIn l counts held) (take filled page ++ text) → LineAnswered line (consoleIn l counts held) filled page (consoleIn l counts held′) n page′
   whole-line o e a x =
-      let y = by-line e x in
-      record { out = put-behind w a ∙ y .out; console = y .console ∙ same-console }
+      let y = by-line filled page e x (output-more (output-page filled page) a) in
+      record { output = y .output; console = sym same-console ∙ y .console }
 
   by-session : (g : F.Given) (d : Bool) → ltb (g .session) 16 ≡ d → F.given line ≡ some g
       → Put n ≡ cond d (Serve (g .session) (countAt counts (g .session) + length (g .input)) n) (Put n)
-      → Added (cond d (headText (g .session)) (refusedText (g .session))) filled page n page′ → LineAnswered line (consoleIn l counts held) (outputOf w filled page) (consoleIn l counts held′) (outputOf w n page′)
+      → Added (cond d (headText (g .session)) (refusedText (g .session))) filled page n page′ → LineAnswered line (consoleIn l counts held) filled page (consoleIn l counts held′) n page′
   unfolding consoleIn
   by-session g true u e r a = let z : _≡_ {A = ℕ} 0 1 = cc in absurd (omega arith)
   by-session g false u e r a =
-      whole-line (some g) e a (refused-line g (consoleIn l counts held) (outputOf w filled page) (ltb-false (g .session) 16 u) (given-bounds line g e .some-bytes) (rests-many counts held))
+      whole-line (some g) e a (refused-line g (consoleIn l counts held) (take filled page) (ltb-false (g .session) 16 u) (given-bounds line g e .some-bytes) (rests-many counts held))
 
-  at-once : LineAnswered line (consoleIn l counts held) (outputOf w filled page) (consoleIn l counts held′) (outputOf w n page′)
+  at-once : LineAnswered line (consoleIn l counts held) filled page (consoleIn l counts held′) n page′
   unfolding beginText begunAs
   at-once = go (F.given line) refl (b .answer) (b .added)
     where
-      go : (o : Option F.Given) → F.given line ≡ o → Put n ≡ begunAs o counts n → Added (beginText o) filled page n page′ → LineAnswered line (consoleIn l counts held) (outputOf w filled page) (consoleIn l counts held′) (outputOf w n page′)
-      go none e r a = whole-line none e a (malformed-line (consoleIn l counts held) (outputOf w filled page))
+      go : (o : Option F.Given) → F.given line ≡ o → Put n ≡ begunAs o counts n → Added (beginText o) filled page n page′ → LineAnswered line (consoleIn l counts held) filled page (consoleIn l counts held′) n page′
+      go none e r a = whole-line none e a (malformed-line (consoleIn l counts held) (take filled page))
       go (some g) e r a = by-session g (ltb (g .session) 16) refl e r a
 
 -- a frame that is served
@@ -163,45 +119,33 @@ serve-is {line} {counts = counts} {i = i} {to} {n} b = go (F.given line) refl (b
     go none e r = let z : _≡_ {A = ℕ} 0 1 = cc in absurd (omega arith)
     go (some g) e r = by-test g (ltb (g .session) 16) refl e r
 
-module _ {line page page₁ held held₁ held′ page′ w w′ : Bytes} {counts counts′ : List ℕ} {filled i to n filled′ : ℕ} {l l′ : Lent} (b : Begins line filled page counts held (Serve i to n) page₁ held₁) (f : FrameCalls i to n w page₁ l counts held₁ l′ counts′ held′ w′ filled′ page′) where
+module _ {line page page₁ page₂ page′ held held₁ held′ : Bytes} {counts counts′ : List ℕ} {filled i to n filled′ : ℕ} {l l′ : Lent} {at : Progress} (b : Begins line filled page counts held (Serve i to n) page₁ held₁)
+    (s : TurnsServed i (part (i * 8192) to held₁) n page₁ l at page₂ l′) (f : Ends i to at page₂ counts held₁ filled′ page′ counts′ held′) where
   frame-bytes : part (i * 8192) to held₁ ≡ heldAt counts held i ++ serve-is b .input
   frame-bytes = ap (λ (k : ℕ). part (i * 8192) k held₁) (serve-is b .end) ∙ b .bytes (record { session = i; input = serve-is b .input }) (serve-is b .given) (serve-is b .below)
 
-  all-served : FrameServed i (part (i * 8192) to held₁) l false (outputOf w filled page ++ headText i) (f .at₁ .mark) (drop (f .at₁ .from) (part (i * 8192) to held₁)) l′ (f .at₁ .replied) (outputOf (f .w₂) (f .at₁ .filled) (f .page₃))
+  all-served : FrameServed i (part (i * 8192) to held₁) l false (take filled page ++ headText i) (at .mark) (restIn i (at .from) to held₁) l′ (at .replied) (s .out)
   all-served =
       let head : Added (headText i) filled page n page₁ = rw (ap beginText (serve-is b .given) ∙ serve-is b .text) at (b .added) in
-      served-from (turns-served (f .turns)) (ap (λ (k : ℕ). drop k (part (i * 8192) to held₁)) (f .from-start)) (f .no-reply) (f .put-begin ∙ put-behind w head)
+      served-from (s .served) (head .front) (sym (rest-is i (at .from) to held₁))
 
-  by-frame : Answered (some (record { session = i; input = serve-is b .input })) (consoleIn l counts held) (outputOf w filled page) (record { state = stateIn l′; rests = set (restsIn counts held) i (restOf (drop (f .at₁ .from) (part (i * 8192) to held₁))) }) (outputOf (f .w₂) (f .at₁ .filled) (f .page₃) ++ endText (f .at₁ .replied) (markAfter (f .at₁ .mark) (drop (f .at₁ .from) (part (i * 8192) to held₁))))
+  by-frame : Answered (some (record { session = i; input = serve-is b .input })) (consoleIn l counts held) (take filled page) (record { state = stateIn l′; rests = set (restsIn counts held) i (restOf (restIn i (at .from) to held₁)) }) (s .out ++ endText (at .replied) (markAfter (at .mark) (restIn i (at .from) to held₁)))
   unfolding consoleIn
   by-frame =
-      frame-answered (record { session = i; input = serve-is b .input }) (consoleIn l counts held) (outputOf w filled page) refl
+      frame-answered (record { session = i; input = serve-is b .input }) (consoleIn l counts held) (take filled page) refl
       (frame-bytes ∙ ap (λ (u : Bytes). u ++ serve-is b .input) (sym (rest-of counts held i (serve-is b .below)))) all-served
 
-  rest-same : restIn i (f .at₂ .from) to held₁ ≡ drop (f .at₁ .from) (part (i * 8192) to held₁)
-  rest-same = ap (λ (k : ℕ). restIn i k to held₁) (f .same-from) ∙ rest-is i (f .at₁ .from) to held₁
-
-  end-is : outputOf w′ filled′ page′ ≡ outputOf (f .w₂) (f .at₁ .filled) (f .page₃) ++ endText (f .at₁ .replied) (markAfter (f .at₁ .mark) (drop (f .at₁ .from) (part (i * 8192) to held₁)))
-  end-is =
-      put-behind w′ (f .ends .added)
-      ∙ ap₂ (λ (u v : Bytes). u ++ v) (f .put-turns) (λ z. endText (f .same-replied z) (markAfter (f .same-mark z) (rest-same z)))
-
-  rests-are : restsIn counts′ held′ ≡ set (restsIn counts held) i (restOf (drop (f .at₁ .from) (part (i * 8192) to held₁)))
-  rests-are = f .ends .rests ∙ (λ z. set (b .rests z) i (restOf (rest-same z)))
-
-  in-turns : LineAnswered line (consoleIn l counts held) (outputOf w filled page) (consoleIn l′ counts′ held′) (outputOf w′ filled′ page′)
-  unfolding consoleIn
+  in-turns : LineAnswered line (consoleIn l counts held) filled page (consoleIn l′ counts′ held′) filled′ page′
   in-turns =
-      let y = by-line (serve-is b .given) by-frame in
-      record { out = end-is ∙ y .out; console = y .console ∙ ap (λ (r : List Bytes). record { state = stateIn l′; rests = r }) (sym rests-are) }
+      let y = by-line filled page (serve-is b .given) by-frame (output-more (s .output) (f .added)) in
+      let rests : restsIn counts′ held′ ≡ set (restsIn counts held) i (restOf (restIn i (at .from) to held₁)) = f .rests ∙ ap (λ (r : List Bytes). set r i (restOf (restIn i (at .from) to held₁))) (b .rests) in
+      record { output = y .output; console = console-is l′ counts′ held′ rests ∙ y .console }
 
--- THE LINE: its calls put exactly the line of the definition, with LF, and leave the console of the definition
-pub line-answered : {line held page held′ w w′ page′ : Bytes} {counts counts′ : List ℕ} {filled filled′ : ℕ} {l l′ : Lent} → LineCalls line l counts held w filled page l′ counts′ held′ w′ filled′ page′
-    → LineAnswered line (consoleIn l counts held) (outputOf w filled page) (consoleIn l′ counts′ held′) (outputOf w′ filled′ page′)
-line-answered {held = held} {w = w} {counts = counts} {l = l} (answered n page′ held′ b) = at-once l counts held w b
-line-answered (served i to n page₁ held₁ l′ counts′ held′ w′ filled′ page′ b f) = in-turns b f
+-- A LINE that is answered at once: its answer is exactly the line of the definition, with LF, and the console after it is the definition's
+pub line-answered : (l : Lent) {line page page′ held held′ : Bytes} {counts : List ℕ} {filled n : ℕ} {r : Begun} → Begins line filled page counts held r page′ held′ → r ≡ Put n → LineAnswered line (consoleIn l counts held) filled page (consoleIn l counts held′) n page′
+line-answered l {held = held} {counts = counts} b e = at-once l counts held (rw e at b)
 
--- the lent state stays valid
-pub line-fits : {line held page held′ w w′ page′ : Bytes} {counts counts′ : List ℕ} {filled filled′ : ℕ} {l l′ : Lent} → valid l ≡ true → LineCalls line l counts held w filled page l′ counts′ held′ w′ filled′ page′ → valid l′ ≡ true
-line-fits ok (answered n page′ held′ b) = ok
-line-fits ok (served i to n page₁ held₁ l′ counts′ held′ w′ filled′ page′ b f) = turns-served (f .turns) .fit
+-- A LINE that is begun, served in turns and ended
+pub line-served : {line page page₁ page₂ page′ held held₁ held′ : Bytes} {counts counts′ : List ℕ} {filled i to n filled′ : ℕ} {l l′ : Lent} {r : Begun} {at : Progress} → Begins line filled page counts held r page₁ held₁ → r ≡ Serve i to n
+    → TurnsServed i (part (i * 8192) to held₁) n page₁ l at page₂ l′ → Ends i to at page₂ counts held₁ filled′ page′ counts′ held′ → LineAnswered line (consoleIn l counts held) filled page (consoleIn l′ counts′ held′) filled′ page′
+line-served b e s f = in-turns (rw e at b) s f

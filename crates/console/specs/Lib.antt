@@ -1,5 +1,5 @@
 -- The definitions of this crate.
+pub mod Answers
 pub mod Lines
 pub mod Page
 pub mod Steps
-pub mod Turns

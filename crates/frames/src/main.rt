@@ -8,11 +8,14 @@ use libc::STDOUT_FILENO;
 use lines::pieces::Mark;
 use lines::rest;
 use registry::open;
-ghost use Prim.Native.Nat.{_+_, _-_, _<_, _≤_, min};
+ghost use Prim.Native.Nat.{_+_, _-_, _*_, _<_, _≤_, min};
 ghost use mathlib.Core.Path.{_≡_};
 ghost use lib.ListN.{drop, length, take};
+ghost use Rattle.key.specs.Bytes.{part};
 ghost use Rattle.calls.specs.Calls.{lentOf};
+ghost use Rattle.calls.specs.Frames.{openConsole};
 ghost use Rattle.lines.specs.Rest.{moved};
+ghost use Rattle.console.specs.Answers.{AllAnswered, LineAnswered, Output, TurnsServed, consoleIn, roomMade};
 ghost use Rattle.console.specs.Steps.{Fit};
 ghost use Rattle.frames.specs.Bounds.{Served};
 ghost use Rattle.frames.specs.Input.{Within, inputLeft, lineLength};
@@ -25,6 +28,8 @@ const PART: usize = 65536;
 const PAGE: usize = 131072;
 
 const HELD: usize = 131072;
+
+const VERSIONS: usize = 1024;
 
 const STORE_WORDS: usize = 4101;
 
@@ -48,6 +53,7 @@ fn make_room(page: &[u8; PAGE], filled: usize, need: usize) -> usize
     requires { ⌜ filled ≤ 131072 ⌝ }
     requires { ⌜ need ≤ 131072 ⌝ }
     ensures { λ r. ⌜ r + need ≤ 131072 ⌝ }
+    ensures { λ r. ⌜ r ≡ roomMade 131072 filled need ⌝ }
 {
     if need <= PAGE - filled {
         return filled;
@@ -78,6 +84,7 @@ fn serve_turns(
     requires { ⌜ Fit (lentOf (now words) (now bytes) (now swords) (now sbytes)) (now reply) ⌝ }
     ensures { λ _. ⌜ Fit (lentOf (now (words .exit)) (now (bytes .exit)) (now (swords .exit)) (now (sbytes .exit))) (now (reply .exit)) ⌝ }
     ensures { λ r. ⌜ Served to r ⌝ }
+    ensures { λ r. ⌜ TurnsServed session (part (session * 8192) to (now (held .entry))) filled (now (page .entry)) (lentOf (now (words .entry)) (now (bytes .entry)) (now (swords .entry)) (now (sbytes .entry))) r (now (page .exit)) (lentOf (now (words .exit)) (now (bytes .exit)) (now (swords .exit)) (now (sbytes .exit))) ⌝ }
 {
     let start = session * 8192;
     let end = start + to;
@@ -125,6 +132,7 @@ fn answer_line(
     requires { ⌜ Fit (lentOf (now words) (now bytes) (now swords) (now sbytes)) (now reply) ⌝ }
     ensures { λ _. ⌜ Fit (lentOf (now (words .exit)) (now (bytes .exit)) (now (swords .exit)) (now (sbytes .exit))) (now (reply .exit)) ⌝ }
     ensures { λ r. ⌜ r ≤ 131072 ⌝ }
+    ensures { λ r. ⌜ LineAnswered (now (line .entry)) (consoleIn (lentOf (now (words .entry)) (now (bytes .entry)) (now (swords .entry)) (now (sbytes .entry))) (now (counts .entry)) (now (held .entry))) filled (now (page .entry)) (consoleIn (lentOf (now (words .exit)) (now (bytes .exit)) (now (swords .exit)) (now (sbytes .exit))) (now (counts .exit)) (now (held .exit))) r (now (page .exit)) ⌝ }
 {
     match frame::begin(line, page, filled, counts, held) {
         Begun::Answered(n) => n,
@@ -197,17 +205,19 @@ fn read_behind(part: &mut [u8], kept: usize) -> usize
 }
 
 // The end of the input ends a line that has bytes.
-fn end_input(part: &mut [u8; PART], kept: usize) -> Cursor
+fn end_input(part: &mut [u8; PART], kept: usize, filled: usize) -> Cursor
     requires { ⌜ kept ≤ 8196 ⌝ }
+    requires { ⌜ filled + 64 ≤ 131072 ⌝ }
     ensures { λ r. ⌜ Within r ⌝ }
     ensures { λ r. ⌜ r .reads ≡ 0 ⌝ }
+    ensures { λ r. ⌜ r .filled ≡ filled ⌝ }
 {
     if kept == 0 {
         return Cursor {
             from: 0,
             end: 0,
             got: 0,
-            filled: 0,
+            filled,
             reads: 0,
         };
     }
@@ -216,7 +226,7 @@ fn end_input(part: &mut [u8; PART], kept: usize) -> Cursor
         from: 0,
         end: kept,
         got: kept + 1,
-        filled: 0,
+        filled,
         reads: 0,
     }
 }
@@ -227,18 +237,19 @@ fn read_on(part: &mut [u8; PART], page: &[u8; PAGE], at: Cursor) -> Cursor
     requires { ⌜ 0 < at .reads ⌝ }
     ensures { λ r. ⌜ Within r ⌝ }
     ensures { λ r. ⌜ r .reads < at .reads ⌝ }
+    ensures { λ r. ⌜ r .filled ≡ roomMade 131072 (at .filled) 131072 ⌝ }
 {
-    make_room(page, at.filled, PAGE);
+    let filled = make_room(page, at.filled, PAGE);
     let kept = keep_line(part, at.from, at.got);
     let count = read_behind(part, kept);
     if count == 0 {
-        return end_input(part, kept);
+        return end_input(part, kept, filled);
     }
     Cursor {
         from: 0,
         end: kept,
         got: kept + count,
-        filled: 0,
+        filled,
         reads: at.reads - 1,
     }
 }
@@ -248,6 +259,7 @@ fn find_end(part: &[u8; PART], at: Cursor) -> Cursor
     requires { ⌜ Within at ⌝ }
     ensures { λ r. ⌜ Within r ⌝ }
     ensures { λ r. ⌜ r .reads ≡ at .reads ⌝ }
+    ensures { λ r. ⌜ r .filled ≡ at .filled ⌝ }
     ensures { λ r. ⌜ inputLeft r ≡ inputLeft at ⌝ }
 {
     Cursor {
@@ -259,11 +271,12 @@ fn find_end(part: &[u8; PART], at: Cursor) -> Cursor
     }
 }
 
-// Goes on to the end of the line at hand; a line that ends at `got` is none, and the page is then written out.
+// Goes on to the end of the line at hand; a line that ends at `got` is none.
 fn next_line(part: &mut [u8; PART], page: &[u8; PAGE], at: Cursor) -> Cursor
     requires { ⌜ Within at ⌝ }
     ensures { λ r. ⌜ Within r ⌝ }
     ensures { λ r. ⌜ inputLeft r ≤ inputLeft at ⌝ }
+    ensures { λ r. ⌜ Output (take (at .filled) (now (page .entry))) (r .filled) (now (page .entry)) ⌝ }
 {
     let mut next = find_end(part, at);
     while 0 < next.reads {
@@ -273,7 +286,6 @@ fn next_line(part: &mut [u8; PART], page: &[u8; PAGE], at: Cursor) -> Cursor
         let more = read_on(part, page, next);
         next = find_end(part, more);
     }
-    next.filled = make_room(page, next.filled, PAGE);
     next
 }
 
@@ -284,6 +296,7 @@ fn behind(page: &[u8; PAGE], at: Cursor, filled: usize) -> Cursor
     requires { ⌜ filled ≤ 131072 ⌝ }
     ensures { λ r. ⌜ Within r ⌝ }
     ensures { λ r. ⌜ inputLeft r < inputLeft at ⌝ }
+    ensures { λ r. ⌜ r .filled ≡ roomMade 131072 filled 64 ⌝ }
 {
     let start = at.end + 1;
     Cursor {
@@ -295,7 +308,7 @@ fn behind(page: &[u8; PAGE], at: Cursor, filled: usize) -> Cursor
     }
 }
 
-// Answers the lines of the input; a last line without LF is a line.
+// Answers the lines of the input, and gives the bytes of the page in use; a last line without LF is a line.
 fn answer_all(
     part: &mut [u8; PART],
     page: &mut [u8; PAGE],
@@ -307,8 +320,11 @@ fn answer_all(
     swords: &mut [u64; SESSION_WORDS],
     sbytes: &mut [u8; SESSION_BYTES],
     reply: &mut [u8; 32768],
-)
+) -> usize
     requires { ⌜ Fit (lentOf (now words) (now bytes) (now swords) (now sbytes)) (now reply) ⌝ }
+    requires { ⌜ consoleIn (lentOf (now words) (now bytes) (now swords) (now sbytes)) (now counts) (now held) ≡ openConsole ⌝ }
+    ensures { λ r. ⌜ r ≤ 131072 ⌝ }
+    ensures { λ r. ⌜ AllAnswered (consoleIn (lentOf (now (words .exit)) (now (bytes .exit)) (now (swords .exit)) (now (sbytes .exit))) (now (counts .exit)) (now (held .exit))) r (now (page .exit)) ⌝ }
 {
     let first = Cursor {
         from: 0,
@@ -338,6 +354,7 @@ fn answer_all(
         let next = behind(page, at, filled);
         at = next_line(part, page, next);
     }
+    at.filled
 }
 
 fn main() {
@@ -351,10 +368,10 @@ fn main() {
     let mut swords = [0u64; SESSION_WORDS];
     let mut sbytes = [0u8; SESSION_BYTES];
     let mut reply = [0u8; 32768];
-    if open::open(&mut words, &bytes, 0, 1024, 32768) != 0 {
+    if open::open(&mut words, &bytes, 0, VERSIONS, STORE_BYTES) != 0 {
         return;
     }
-    answer_all(
+    let filled = answer_all(
         &mut part,
         &mut page,
         &mut counts,
@@ -366,4 +383,5 @@ fn main() {
         &mut sbytes,
         &mut reply,
     );
+    make_room(&page, filled, PAGE);
 }

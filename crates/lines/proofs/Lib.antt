@@ -4,6 +4,7 @@ pub mod FrameLaws
 pub mod HeldLaws
 pub mod HexLaws
 pub mod LineLaws
+pub mod OpenLaws
 pub mod PrintedLaws
 pub mod QuitLaws
 pub mod RestLaws

@@ -1,6 +1,9 @@
--- `frames::answer_all` meets its contract. The invariant: the line at hand is within what is read, and memory is fit to be served. Assumes nothing.
+-- `frames::answer_all` meets its contract. The invariant: the line at hand is within what is read, memory is fit to be served, and all lines
+-- before it are answered. Assumes nothing.
 use Rattle.calls.specs.Calls.{lentOf}
+use Rattle.console.specs.Answers.{consoleIn, AllAnswered}
 use Rattle.console.specs.Steps.{Fit}
+use Rattle.console.proofs.OutputLaws.{output-on, output-room, answers-none, answers-on, answers-more}
 use Rattle.frames.specs.Input.{Within, inputLeft}
 use borrow.Author.Needs.{needs}
 use Rattle.frames.proofs.answer_all.Statement.{statement}
@@ -8,7 +11,7 @@ use Rattle.frames.proofs.answer_all.Tie as tie
 
 abbrev Inv-loop : tie.InvT-loop
 Inv-loop part₀ page₀ counts₀ held₀ places₀ words₀ bytes₀ swords₀ sbytes₀ reply₀ at₀ part page counts held places words bytes swords sbytes reply at =
-    Within at × Fit (lentOf words bytes swords sbytes) reply
+    Within at × (Fit (lentOf words bytes swords sbytes) reply × AllAnswered (consoleIn (lentOf words bytes swords sbytes) counts held) (at .filled) page)
 
 abbrev μ-loop : tie.MeasureT-loop
 μ-loop part₀ page₀ counts₀ held₀ places₀ words₀ bytes₀ swords₀ sbytes₀ reply₀ at₀ part page counts held places words bytes swords sbytes reply at =
@@ -18,7 +21,7 @@ next-line-requires : tie.Need-next-line-requires Inv-loop μ-loop
 next-line-requires c κs = search needs
 
 loop-holds : tie.Need-loop-holds Inv-loop μ-loop
-loop-holds c = search needs
+loop-holds c = (search needs, (search needs, answers-none (c .before .before .before .pre .1) (c .next-line .ensures .1 .1)))
 
 sub-answer-line : tie.Need-sub-answer-line Inv-loop μ-loop
 sub-answer-line c = search needs
@@ -42,10 +45,10 @@ loop-less : tie.Need-loop-less Inv-loop μ-loop
 loop-less c = search needs
 
 loop-again : tie.Need-loop-again Inv-loop μ-loop
-loop-again c = search needs
+loop-again c = (search needs, (search needs, answers-on (answers-more (c .before .before .before .before .before .before .before .before .before .before .before .before .before .before .before .before .before .before .before .before .loop .inv .1 .1) (c .before .before .before .before .before .answer-line .ensures .1 .1)) (output-on (output-room _ 131072 _ 64 (c .before .before .before .behind .ensures .1 .1)) (c .next-line2 .ensures .1 .1))))
 
 returns : tie.Need-returns Inv-loop μ-loop
-returns c = search needs
+returns c = (search needs, c .before .before .loop .inv .1 .1)
 
 pub answer-all-spec : {M : Type 1} → statement M
 answer-all-spec =

@@ -2,6 +2,7 @@
 use mathlib.Core.Path.{sym}
 use native.Mathlib.Omega.{arith}
 use lib.Seq.{length-take-le}
+use Rattle.frames.proofs.TurnLaws.{room-kept, room-written}
 use borrow.Author.Needs.{needs}
 use Rattle.frames.proofs.make_room.Statement.{statement}
 use Rattle.frames.proofs.make_room.Tie as tie
@@ -10,7 +11,7 @@ sub-if1 : tie.Need-sub-if1
 sub-if1 c = search needs
 
 returns : tie.Need-returns
-returns c = search needs
+returns c = (search needs, search room-kept)
 
 slice-aggregate-write-all : tie.Need-slice-aggregate-write-all
 slice-aggregate-write-all c = sym (length-take-le _ _ (omega arith))
@@ -19,7 +20,7 @@ write-all-requires : tie.Need-write-all-requires
 write-all-requires c κs = search needs
 
 returns-2 : tie.Need-returns-2
-returns-2 c = search needs
+returns-2 c = (search needs, search room-written)
 
 pub make-room-spec : {M : Type 1} → statement M
 make-room-spec =
