@@ -115,7 +115,7 @@ pub fn settle_member(
 }
 
 // The byte of a verdict.
-fn verdict_byte(verdict: Verdict) -> u8
+pub fn verdict_byte(verdict: Verdict) -> u8
     ensures { λ r. ⌜ r ≡ verdictByte verdict ⌝ }
 {
     match verdict {

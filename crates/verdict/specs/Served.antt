@@ -1,6 +1,7 @@
 -- What a command outside MULTI gives and leaves, from its reply and its writes.
 use Prim.Native.Nat.{ℕ, _-_}
 use mathlib.Core.Path.{_≡_}
+use mathlib.Core.Bool.{cond}
 use mathlib.Core.List.{List, [], _∷_, _++_}
 use mathlib.Core.Option.{some}
 use lib.ListN.{length, replicate}
@@ -12,8 +13,7 @@ use lib.IntN.{ℤ, pos}
 use Rattle.memtable.specs.Versions.{Store, commit}
 use Rattle.memtable.specs.Layout.{storeIn, leaveWords, leaveBytes}
 use Rattle.batch.specs.declared.Verdict.{Verdict}
-use Rattle.batch.specs.declared.Verdict.the-variants.{Accepted, Conflict, NoRoom, NoSequence, NotTaken}
-use Rattle.batch.specs.Group.{plain, verdictAlone}
+use Rattle.batch.specs.Group.{plain, verdictAlone, isAccepted}
 use Rattle.server.specs.declared.Answer.{Answer}
 use Rattle.server.specs.Command.{Effect, Executed, live}
 use Rattle.server.specs.Places.{argumentsAt, tombstonesAt}
@@ -24,11 +24,7 @@ use Rattle.server.specs.Finish.{Served, finish, Says, StoreLeft}
 
 -- the reply buffer after a verdict: a refusal clears it
 unfoldable pub bufferAfter : Verdict → Bytes → Bytes
-bufferAfter Accepted out = out
-bufferAfter Conflict out = replicate (length out) 0
-bufferAfter NoRoom out = replicate (length out) 0
-bufferAfter NoSequence out = replicate (length out) 0
-bufferAfter NotTaken out = replicate (length out) 0
+bufferAfter v out = cond (isAccepted v) out (replicate (length out) 0)
 
 -- a command by its effect: its writes commit by themselves
 unfoldable pub effectServed : ℕ → ℕ → Effect → Store → Session → Served

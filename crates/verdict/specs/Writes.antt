@@ -11,8 +11,8 @@ use Rattle.memtable.specs.Table.{Write}
 use Rattle.memtable.specs.Versions.{writesSize}
 use Rattle.memtable.specs.Layout.{countWord, usedWord, lastWord, mostVersionsWord, mostBytesWord}
 use Rattle.batch.specs.declared.Verdict.{Verdict}
-use Rattle.batch.specs.declared.Verdict.the-variants.{Accepted, Conflict, NoRoom, NoSequence, NotTaken}
-use Rattle.batch.specs.Group.{verdictByte}
+use Rattle.batch.specs.declared.Verdict.the-variants.{Accepted, NoRoom, NoSequence}
+use Rattle.batch.specs.Group.{verdictByte, isAccepted}
 use Rattle.server.specs.declared.Answer.{Answer}
 use Rattle.answer.specs.Answers.{refusal, putAnswer}
 
@@ -35,8 +35,4 @@ verdictLeft w writes Short = NoRoom
 
 -- 6 and 7 come before 3
 unfoldable pub verdictAnswer : Verdict → Put → ℕ → Answer
-verdictAnswer Accepted put used = putAnswer put used
-verdictAnswer Conflict put used = refusal (verdictByte Conflict)
-verdictAnswer NoRoom put used = refusal (verdictByte NoRoom)
-verdictAnswer NoSequence put used = refusal (verdictByte NoSequence)
-verdictAnswer NotTaken put used = refusal (verdictByte NotTaken)
+verdictAnswer v put used = cond (isAccepted v) (putAnswer put used) (refusal (verdictByte v))

@@ -10,7 +10,6 @@ ghost use lib.ListN.{length};
 ghost use Rattle.key.specs.Bytes.{total};
 ghost use Rattle.memtable.specs.Layout.{usedWord, mostBytesWord};
 ghost use Rattle.memtable.specs.Rows.{bytesLeft};
-ghost use Rattle.batch.specs.Group.{verdictByte};
 ghost use Rattle.server.specs.Places.{lengthsAt};
 ghost use Rattle.verdict.specs.Writes.{HeaderIn, verdictLeft, verdictAnswer};
 ghost use Rattle.verdict.specs.Served.{bufferAfter};
@@ -59,27 +58,14 @@ pub fn verdict_for(words: &[u64], writes: usize, left: Left) -> Verdict
     Verdict::Accepted
 }
 
-// The number of a verdict: 0 where the writes are accepted.
-fn verdict_number(verdict: Verdict) -> u64
-    ensures { λ r. ⌜ r ≡ verdictByte verdict ⌝ }
-{
-    match verdict {
-        Verdict::Accepted => 0,
-        Verdict::Conflict => 1,
-        Verdict::NoRoom => 6,
-        Verdict::NoSequence => 7,
-        Verdict::NotTaken => 255,
-    }
-}
-
 // The answer after a verdict, with the reply that was put: 6 and 7 come before 3, and clear the buffer.
 pub fn verdict_answer(out: &mut [u8], verdict: Verdict, put: Put, used: usize) -> Answer
     ensures { λ r. ⌜ r ≡ verdictAnswer verdict put used ⌝ }
     ensures { λ _. ⌜ now (out .exit) ≡ bufferAfter verdict (now (out .entry)) ⌝ }
 {
-    let number = verdict_number(verdict);
+    let number = settle::verdict_byte(verdict);
     if number != 0 {
-        return answer::refuse(out, number);
+        return answer::refuse(out, number as u64);
     }
     answer::put_answer(put, used)
 }

@@ -4,8 +4,11 @@ use borrow.Author.Needs.{needs}
 use Rattle.verdict.proofs.room.verdict_answer.Statement.{statement}
 use Rattle.verdict.proofs.room.verdict_answer.Tie as tie
 
-verdict-number-requires : tie.Need-verdict-number-requires
-verdict-number-requires c κs = search needs
+verdict-byte-requires : tie.Need-verdict-byte-requires
+verdict-byte-requires c κs = search needs
+
+cast-refuse : tie.Need-cast-refuse
+cast-refuse c = search needs
 
 refuse-requires : tie.Need-refuse-requires
 refuse-requires c κs = search needs
@@ -26,7 +29,8 @@ pub verdict-answer-spec : {M : Type 1} → statement M
 verdict-answer-spec =
     tie.close
     (tie.spec
-    verdict-number-requires
+    verdict-byte-requires
+    cast-refuse
     refuse-requires
     same-length
     returns
