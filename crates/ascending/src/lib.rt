@@ -1,6 +1,7 @@
 // Writes of ascending keys committed in one pass over the store, from the last to the first: each row and byte moves at most once.
 use batch::parts;
 use batch::sizes;
+use memtable::LAST;
 use memtable::merge::Front;
 use memtable::open::Left;
 use memtable::read;
@@ -112,7 +113,7 @@ pub fn commit_ascending(
 {
     let rows = read::word(words, 0);
     let used = read::word(words, 1);
-    let top = words[2] + read::wide(count);
+    let top = words[LAST] + read::wide(count);
     let gap = writes_size(parts, first, count, words);
     let front = Front {
         rows: rows,

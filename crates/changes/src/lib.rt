@@ -1,4 +1,8 @@
 // Reading the head of one session, and the changes that touch its head alone.
+use sessions::FAILED;
+use sessions::IN_MULTI;
+use sessions::QUEUED;
+use sessions::WATCHED;
 ghost use mathlib.Core.Path.{_≡_};
 ghost use lib.ListN.{length, getD};
 ghost use Rattle.server.specs.Session.{marked};
@@ -10,7 +14,7 @@ pub fn in_multi(words: &[u64]) -> bool
     requires { ⌜ length (now words) ≡ 644 ⌝ }
     ensures { λ r. ⌜ r ≡ yes? (getD (now (words .entry)) 0 0) ⌝ }
 {
-    words[0] != 0
+    words[IN_MULTI] != 0
 }
 
 // Is the session marked failed?
@@ -18,7 +22,7 @@ pub fn failed(words: &[u64]) -> bool
     requires { ⌜ length (now words) ≡ 644 ⌝ }
     ensures { λ r. ⌜ r ≡ yes? (getD (now (words .entry)) 1 0) ⌝ }
 {
-    words[1] != 0
+    words[FAILED] != 0
 }
 
 // Drops queue, watch and mark.
@@ -26,10 +30,10 @@ pub fn clear(words: &mut [u64])
     requires { ⌜ length (now words) ≡ 644 ⌝ }
     ensures { λ _. ⌜ Left cleared (now (words .entry)) (now (words .exit)) ⌝ }
 {
-    words[0] = 0;
-    words[1] = 0;
-    words[2] = 0;
-    words[3] = 0;
+    words[IN_MULTI] = 0;
+    words[FAILED] = 0;
+    words[WATCHED] = 0;
+    words[QUEUED] = 0;
 }
 
 // Marks the session failed. A mark that is set stays as it is.
@@ -37,8 +41,8 @@ pub fn mark_failed(words: &mut [u64])
     requires { ⌜ length (now words) ≡ 644 ⌝ }
     ensures { λ _. ⌜ Left marked (now (words .entry)) (now (words .exit)) ⌝ }
 {
-    if words[1] == 0 {
-        words[1] = 1;
+    if words[FAILED] == 0 {
+        words[FAILED] = 1;
         return;
     }
 }
@@ -48,8 +52,8 @@ pub fn open_multi(words: &mut [u64])
     requires { ⌜ (length (now words) ≡ 644) × (getD (now words) 0 0 ≡ 0) ⌝ }
     ensures { λ _. ⌜ Left opened (now (words .entry)) (now (words .exit)) ⌝ }
 {
-    words[0] = 1;
-    words[1] = 0;
+    words[IN_MULTI] = 1;
+    words[FAILED] = 0;
 }
 
 // Drops the watch.
@@ -57,5 +61,5 @@ pub fn unwatch(words: &mut [u64])
     requires { ⌜ length (now words) ≡ 644 ⌝ }
     ensures { λ _. ⌜ Left unwatched (now (words .entry)) (now (words .exit)) ⌝ }
 {
-    words[2] = 0;
+    words[WATCHED] = 0;
 }

@@ -1,6 +1,7 @@
 // The end of an EXEC: what is decided of it, and that applied: the answer, the commit, and the session cleared.
 use decision::ACCEPTED;
 use decision::NONE_REACHED;
+use memtable::LAST;
 use server::Answer;
 use writing::Put;
 ghost use Prim.Native.Nat.{_+_, _*_, _^_, _≤_};
@@ -100,7 +101,7 @@ pub fn judge(
         writing::clear(out);
         return halt(6);
     }
-    if !settle::has_sequences(words[2], rows) {
+    if !settle::has_sequences(words[LAST], rows) {
         writing::clear(out);
         return halt(7);
     }

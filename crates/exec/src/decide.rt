@@ -7,6 +7,7 @@ use conclude::Prepared;
 use decision::CONFLICT;
 use decision::NONE_REACHED;
 use encode::reply;
+use memtable::LAST;
 use server::Fixed;
 ghost use mathlib.Core.Path.{_≡_};
 ghost use mathlib.Core.Bool.{true};
@@ -60,7 +61,7 @@ pub fn decide_queue(
     requires { ⌜ WorkingMemory sizes (now places) (now own) (now «data») ⌝ }
     ensures { λ r. ⌜ Decides (execDecided (length (now (out .entry))) (now («session_words» .entry)) (now («session_bytes» .entry)) (now (words .entry)) (now (bytes .entry))) (now (words .entry)) (now (out .entry)) (now (own .exit)) (now («data» .exit)) r (now (out .exit)) ⌝ }
 {
-    let seq = words[2];
+    let seq = words[LAST];
     layout::lay_out(session_words, session_bytes, sizes, places, data);
     let at = queued::run_queue(
         session_words,

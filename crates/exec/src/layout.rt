@@ -1,4 +1,11 @@
 // The working memory of an EXEC: the places of the queued arguments, and a copy of the bytes that they lie in.
+use sessions::ARGUMENTS;
+use sessions::COUNTS;
+use sessions::LENGTHS;
+use sessions::MOST_ARGUMENT_BYTES;
+use sessions::MOST_ARGUMENTS;
+use sessions::MOST_QUEUED;
+use sessions::QUEUED;
 use store::merge;
 ghost use mathlib.Core.Path.{_≡_};
 ghost use mathlib.Core.Bool.{true};
@@ -9,23 +16,6 @@ ghost use Rattle.server.specs.Sessions.{queueIn, allPositive, allQueueable};
 ghost use Rattle.server.specs.Held.{Held};
 ghost use Rattle.server.specs.Places.{QueueSizes};
 ghost use Rattle.exec.specs.Execution.{SizesOf, small, LaidOut};
-
-// Where the words of a session hold the number of queued commands, the counts of their arguments, and the lengths of these.
-const COMMANDS: usize = 3;
-
-const COUNTS: usize = 68;
-
-const LENGTHS: usize = 132;
-
-// Where the bytes of a session hold the queued arguments.
-const ARGUMENTS: usize = 2048;
-
-// The limits of a queue.
-const MOST_COMMANDS: usize = 64;
-
-const MOST_ARGUMENTS: usize = 512;
-
-const MOST_BYTES: usize = 8192;
 
 // The limits of a small queue: sixteen SET with 64 bytes each, whose working memory is a tenth of the largest to clear.
 const SMALL_COMMANDS: usize = 16;
@@ -48,7 +38,7 @@ pub const MOST_PLACES: usize = 2 * MOST_ARGUMENTS;
 
 pub const MOST_WRITES: usize = 4 * MOST_ARGUMENTS;
 
-pub const MOST_DATA: usize = MOST_BYTES + COUNTER_TEXT * MOST_COMMANDS;
+pub const MOST_DATA: usize = MOST_ARGUMENT_BYTES + COUNTER_TEXT * MOST_QUEUED;
 
 // The sizes of a queue: its commands, their arguments, and the bytes of these.
 pub struct Sizes {
@@ -62,9 +52,9 @@ pub fn sizes_of(session_words: &[u64]) -> Sizes
     requires { ⌜ QueueSizes (now «session_words») ⌝ }
     ensures { λ r. ⌜ SizesOf (now («session_words» .entry)) r ⌝ }
 {
-    let commands = sessions::word(session_words, COMMANDS);
+    let commands = sessions::word(session_words, QUEUED);
     let arguments = sessions::sum_within(session_words, COUNTS, commands, MOST_ARGUMENTS);
-    let bytes = sessions::sum_within(session_words, LENGTHS, arguments, MOST_BYTES);
+    let bytes = sessions::sum_within(session_words, LENGTHS, arguments, MOST_ARGUMENT_BYTES);
     Sizes {
         commands: commands,
         arguments: arguments,

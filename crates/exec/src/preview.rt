@@ -12,6 +12,7 @@ use crate::layout::Sizes;
 use conclude::Prepared;
 use decision::NONE_REACHED;
 use decision::Preview;
+use memtable::LAST;
 use memtable::read;
 use server::Fixed;
 ghost use mathlib.Core.Path.{_≡_};
@@ -71,7 +72,7 @@ fn preview_in(
         own,
         data,
     );
-    preview_of(prepared, words[2])
+    preview_of(prepared, words[LAST])
 }
 
 // The same, with working memory of its own for a small queue.
@@ -169,7 +170,7 @@ fn preview_inside(
     let Early::Known(prepared) = early else {
         return preview_queue(session_words, session_bytes, words, bytes, out);
     };
-    preview_of(prepared, words[2])
+    preview_of(prepared, words[LAST])
 }
 
 // A preview of EXEC of a valid session, with its reply in a cleared buffer. Without MULTI no verdict is reached.
@@ -191,5 +192,5 @@ pub fn preview(
     }
     let put = errors::put_fixed(out, Fixed::ExecAlone);
     let prepared = conclude::prepare(put, NONE_REACHED, 0, 0);
-    preview_of(prepared, words[2])
+    preview_of(prepared, words[LAST])
 }

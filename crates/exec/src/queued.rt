@@ -7,6 +7,8 @@ use inside::Walked;
 use inside::counters;
 use inside::pairs;
 use inside::tombstones;
+use sessions::COUNTS;
+use sessions::QUEUED;
 use writing::Put;
 ghost use mathlib.Core.Path.{_≡_};
 ghost use mathlib.Core.Bool.{true};
@@ -122,7 +124,7 @@ pub fn run_queue(
     requires { ⌜ used + 20 * getD (now «session_words») 3 0 ≤ length (now «data») ⌝ }
     ensures { λ r. ⌜ QueueRan (advanceAll seq (versionsIn (now (words .entry)) (now (bytes .entry))) (commandsIn (now («session_words» .entry)) (now (places .entry)) (take used (now («data» .entry)))) begun) (getD (now («session_words» .entry)) 3 0) (now (own .entry)) (now («data» .entry)) (now (out .entry)) (now (own .exit)) (now («data» .exit)) (now (out .exit)) r ⌝ }
 {
-    let queued = sessions::word(session_words, 3);
+    let queued = sessions::word(session_words, QUEUED);
     let mut at = Walked {
         rows: 0,
         used: used,
@@ -131,7 +133,7 @@ pub fn run_queue(
     let mut first = 0;
     let mut i = 0;
     while i < queued {
-        let count = sessions::word(session_words, 68 + i);
+        let count = sessions::word(session_words, COUNTS + i);
         let start = 2 * first;
         let end = start + 2 * count;
         let put = at.put;

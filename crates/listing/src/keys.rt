@@ -1,5 +1,6 @@
 // The keys that match a pattern: KEYS, and what SCAN lists.
 use encode::reply;
+use memtable::COUNT;
 use memtable::Found;
 use memtable::live;
 use memtable::read;
@@ -119,6 +120,6 @@ pub fn put_keys(out: &mut [u8], words: &[u64], bytes: &[u8], pattern: &[u8]) -> 
     ensures { λ r. ⌜ Puts (encode (answerListing (table (versionsIn (now (words .entry)) (now (bytes .entry)))) (KEYS (now (pattern .entry))))) (now (out .entry)) r (now (out .exit)) ⌝ }
 {
     let last = glob::last_star(pattern);
-    let seen = count_matches(words, bytes, pattern, last, 0, words[0]);
+    let seen = count_matches(words, bytes, pattern, last, 0, words[COUNT]);
     put_matches(out, words, bytes, pattern, last, 0, seen.matched)
 }

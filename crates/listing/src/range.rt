@@ -2,6 +2,7 @@
 use encode::reply;
 use key::Order;
 use memtable::Found;
+use memtable::LAST;
 use memtable::live;
 use memtable::read;
 use writing::Put;
@@ -108,7 +109,7 @@ pub fn put_range(
     requires { ⌜ Valid (now words) (now bytes) ⌝ }
     ensures { λ r. ⌜ Puts (encode (answerListing (table (versionsIn (now (words .entry)) (now (bytes .entry)))) (RANGE (now (start .entry)) (now (end .entry)) (some limit)))) (now (out .entry)) r (now (out .exit)) ⌝ }
 {
-    let from = read::place(words, bytes, start, words[2]);
+    let from = read::place(words, bytes, start, words[LAST]);
     let count = count_below(words, bytes, end, from, limit);
     put_pairs(out, words, bytes, from, count)
 }

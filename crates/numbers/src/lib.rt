@@ -1,4 +1,5 @@
 // The numbers that a call returns before it does anything.
+use memtable::LAST;
 use store::valid;
 ghost use mathlib.Core.Path.{_≡_};
 ghost use Rattle.calls.specs.Calls.{lentOf};
@@ -20,7 +21,7 @@ pub fn request_number(
     if !valid::validate(words, bytes) {
         return 9;
     }
-    if validity::sessions_ok(swords, sbytes, words[2]) {
+    if validity::sessions_ok(swords, sbytes, words[LAST]) {
         return 0;
     }
     9

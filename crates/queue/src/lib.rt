@@ -1,4 +1,11 @@
 // The queue of one session: its limits, and a command appended behind it.
+use sessions::ARGUMENTS;
+use sessions::COUNTS;
+use sessions::LENGTHS;
+use sessions::MOST_ARGUMENT_BYTES;
+use sessions::MOST_ARGUMENTS;
+use sessions::MOST_QUEUED;
+use sessions::QUEUED;
 ghost use mathlib.Core.Path.{_≡_};
 ghost use Prim.Native.Nat.{_+_, _*_, _≤_};
 ghost use lib.ListN.{length};
@@ -31,16 +38,16 @@ pub fn takes(words: &[u64], places: &[u64], count: usize) -> bool
     requires { ⌜ 2 * count ≤ length (now places) ⌝ }
     ensures { λ r. ⌜ Takes (now (words .entry)) (now (places .entry)) count r ⌝ }
 {
-    let queued = sessions::word(words, 3);
-    if 64 <= queued {
+    let queued = sessions::word(words, QUEUED);
+    if MOST_QUEUED <= queued {
         return false;
     }
-    let arguments = sessions::sum_within(words, 68, queued, 512);
-    if 512 - arguments < count {
+    let arguments = sessions::sum_within(words, COUNTS, queued, MOST_ARGUMENTS);
+    if MOST_ARGUMENTS - arguments < count {
         return false;
     }
-    let used = sessions::sum_within(words, 132, arguments, 8192);
-    let left = 8192 - used;
+    let used = sessions::sum_within(words, LENGTHS, arguments, MOST_ARGUMENT_BYTES);
+    let left = MOST_ARGUMENT_BYTES - used;
     lengths_within(places, count, left) <= left
 }
 
@@ -81,13 +88,13 @@ pub fn append(words: &mut [u64], bytes: &mut [u8], input: &[u8], places: &[u64],
     requires { ⌜ HasRoom (now words) (now places) count ⌝ }
     ensures { λ _. ⌜ Appended (now (words .entry)) (now (words .exit)) (now (bytes .entry)) (now (bytes .exit)) (argumentsAt 0 count (now (places .entry)) (now (input .entry))) ⌝ }
 {
-    let queued = sessions::word(words, 3);
-    let arguments = sessions::sum_within(words, 68, queued, 512);
-    let used = sessions::sum_within(words, 132, arguments, 8192);
+    let queued = sessions::word(words, QUEUED);
+    let arguments = sessions::sum_within(words, COUNTS, queued, MOST_ARGUMENTS);
+    let used = sessions::sum_within(words, LENGTHS, arguments, MOST_ARGUMENT_BYTES);
     put_lengths(words, 132 + arguments, places, count);
-    put_arguments(bytes, 2048 + used, input, places, count);
+    put_arguments(bytes, ARGUMENTS + used, input, places, count);
     words[68 + queued] = count as u64;
-    words[3] = (queued + 1) as u64;
+    words[QUEUED] = (queued + 1) as u64;
 }
 
 // Writes the places of the first `count` queued arguments into a table, counted from the first byte of the queue.
@@ -98,7 +105,7 @@ pub fn expand(words: &[u64], places: &mut [u64], count: usize)
     let mut start = 0;
     let mut i = 0;
     while i < count {
-        let len = sessions::word(words, 132 + i);
+        let len = sessions::word(words, LENGTHS + i);
         let at = 2 * i;
         places[at] = start as u64;
         places[at + 1] = len as u64;

@@ -1,5 +1,6 @@
 // A group of members, judged and committed in one call.
 use batch::Member;
+use memtable::LAST;
 ghost use mathlib.Core.Path.{_≡_};
 ghost use Prim.Native.Nat.{_<_};
 ghost use lib.ListN.{length};
@@ -11,7 +12,7 @@ fn last(words: &[u64]) -> u64
     requires { ⌜ 2 < length (now words) ⌝ }
     ensures { λ r. ⌜ r ≡ lastWord (now (words .entry)) ⌝ }
 {
-    words[2]
+    words[LAST]
 }
 
 // Judges a group and commits the accepted members: 0, or 8 or 9, which leave all. A verdict byte is written for each member.

@@ -7,6 +7,8 @@ use parse::request;
 use resp::Fault;
 use resp::Read;
 use server::Answer;
+use sessions::BYTES;
+use sessions::WORDS;
 ghost use mathlib.Core.Path.{_≡_};
 ghost use Prim.Native.Nat.{_/_};
 ghost use lib.ListN.{length};
@@ -108,10 +110,10 @@ pub fn serve_session(
     ensures { λ r. ⌜ RequestPromise session (now (input .entry)) (length (now (places .entry)) / 2) (now (out .entry)) (lentOf (now (words .entry)) (now (bytes .entry)) (now (swords .entry)) (now (sbytes .entry))) r (now (out .exit)) (lentOf (now (words .exit)) (now (bytes .exit)) (now (swords .exit)) (now (sbytes .exit))) ⌝ }
     ensures { λ _. ⌜ TablePromise session (now (input .entry)) (lentOf (now (words .entry)) (now (bytes .entry)) (now (swords .entry)) (now (sbytes .entry))) (now (places .entry)) (now (places .exit)) ⌝ }
 {
-    let from = session * 644;
-    let to = from + 644;
-    let start = session * 10240;
-    let end = start + 10240;
+    let from = session * WORDS;
+    let to = from + WORDS;
+    let start = session * BYTES;
+    let end = start + BYTES;
     serve(
         input,
         places,
@@ -135,10 +137,10 @@ pub fn preview_session(
     requires { ⌜ ReadyAmong session (now words) (now bytes) (now swords) (now sbytes) (now out) ⌝ }
     ensures { λ r. ⌜ PreviewPromise session (now (out .entry)) (lentOf (now (words .entry)) (now (bytes .entry)) (now (swords .entry)) (now (sbytes .entry))) r (now (out .exit)) (lentOf (now (words .entry)) (now (bytes .entry)) (now (swords .entry)) (now (sbytes .entry))) ⌝ }
 {
-    let word = session * 644;
-    let byte = session * 10240;
-    let words_end = word + 644;
-    let bytes_end = byte + 10240;
+    let word = session * WORDS;
+    let byte = session * BYTES;
+    let words_end = word + WORDS;
+    let bytes_end = byte + BYTES;
     preview::preview(
         &swords[word..words_end],
         &sbytes[byte..bytes_end],

@@ -1,6 +1,7 @@
 // A request on one session and the store, by its route (`Session::run` of src/server.rs).
 use batch::parts;
 use exec::transaction;
+use memtable::LAST;
 use server::Answer;
 use session::local;
 use session::routes;
@@ -40,7 +41,7 @@ pub fn respond(
 {
     let word = name(input, places, count);
     let row = names::look_up(word);
-    let last = words[2];
+    let last = words[LAST];
     match routes::route_of(swords, row) {
         Route::Here(way) => local::answer(
             way,

@@ -3,6 +3,8 @@ use crate::answers;
 use server::Answer;
 use server::Fixed;
 use server::watched::Grown;
+use sessions::MOST_KEY_BYTES;
+use sessions::MOST_WATCHED;
 use writing::Put;
 ghost use mathlib.Core.Path.{_≡_};
 ghost use Prim.Native.Nat.{_-_, _≤_};
@@ -60,9 +62,9 @@ fn watch_arguments(
     requires { ⌜ now out ≡ replicate (length (now out)) 0 ⌝ }
     ensures { λ r. ⌜ Answered (watchingAt (argumentsAt 1 (count - 1) (now (places .entry)) (now (input .entry))) last) (now (words .entry)) (now (words .exit)) (now (bytes .entry)) (now (bytes .exit)) used (now (out .entry)) r (now (out .exit)) ⌝ }
 {
-    let mut lens = [0u64; 32];
-    let mut seqs = [0u64; 32];
-    let mut text = [0u8; 2048];
+    let mut lens = [0u64; MOST_WATCHED];
+    let mut seqs = [0u64; MOST_WATCHED];
+    let mut text = [0u8; MOST_KEY_BYTES];
     let grown = watch::grow(
         words,
         bytes,

@@ -5,6 +5,42 @@ ghost use lib.ListN.{length, getD};
 ghost use Rattle.key.specs.Bytes.{part, total};
 ghost use Rattle.server.specs.Lent.{capped};
 
+// The words of a session: inside MULTI or not, failed or not, the counts of watched keys and of queued commands; then where the lengths and the
+// sequences of the watched keys, the counts of arguments and the lengths of arguments begin.
+pub const IN_MULTI: usize = 0;
+
+pub const FAILED: usize = 1;
+
+pub const WATCHED: usize = 2;
+
+pub const QUEUED: usize = 3;
+
+pub const KEY_LENGTHS: usize = 4;
+
+pub const KEY_SEQUENCES: usize = 36;
+
+pub const COUNTS: usize = 68;
+
+pub const LENGTHS: usize = 132;
+
+// The words and bytes of a session, and where its bytes hold the queued arguments.
+pub const WORDS: usize = 644;
+
+pub const BYTES: usize = 10240;
+
+pub const ARGUMENTS: usize = 2048;
+
+// The limits of a session: watched keys and their bytes, queued commands, their arguments and the bytes of these.
+pub const MOST_WATCHED: usize = 32;
+
+pub const MOST_KEY_BYTES: usize = 2048;
+
+pub const MOST_QUEUED: usize = 64;
+
+pub const MOST_ARGUMENTS: usize = 512;
+
+pub const MOST_ARGUMENT_BYTES: usize = 8192;
+
 // A word as an index.
 fn index(x: u64) -> usize
     ensures { λ r. ⌜ r ≡ x ⌝ }

@@ -4,6 +4,7 @@ use batch::Verdict;
 use batch::conflict;
 use batch::parts;
 use batch::sizes;
+use memtable::LAST;
 use memtable::open::Left;
 use memtable::read;
 use store::commit;
@@ -107,7 +108,7 @@ pub fn settle_member(
     if !has_room(parts, member.first_write, member.writes, words) {
         return Verdict::NoRoom;
     }
-    if !has_sequences(words[2], member.writes) {
+    if !has_sequences(words[LAST], member.writes) {
         return Verdict::NoSequence;
     }
     commit_writes(parts, data, member.first_write, member.writes, words, bytes);

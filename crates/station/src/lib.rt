@@ -1,6 +1,7 @@
 // The published calls and the readings of a table, for programs in C and Rust. A slice goes over as a pointer and a count.
 use batch::Member;
 use memtable::Found;
+use memtable::LAST;
 use memtable::live;
 use memtable::read;
 use received::ReplyRead;
@@ -184,7 +185,7 @@ fn value_of(words: &[u64], bytes: &[u8], name: &[u8]) -> Reading
     requires { ⌜ Valid (now words) (now bytes) ⌝ }
     ensures { λ r. ⌜ r ≡ lastReading (now (words .entry)) (now (bytes .entry)) (now (name .entry)) ⌝ }
 {
-    let found = read::find_value(words, bytes, name, words[2]);
+    let found = read::find_value(words, bytes, name, words[LAST]);
     match found {
         Found::At(i) => value_at(words, bytes, i),
         Found::Nothing => no_value(0),

@@ -1,5 +1,6 @@
 // Committing one write: a merge of one.
 use crate::merge;
+use memtable::LAST;
 use memtable::merge::Front;
 use memtable::read;
 ghost use mathlib.Core.Path.{_≡_};
@@ -16,7 +17,7 @@ pub fn commit_one(words: &mut [u64], bytes: &mut [u8], name: &[u8], value: &[u8]
 {
     let rows = read::word(words, 0);
     let used = read::word(words, 1);
-    let seq = words[2] + 1;
+    let seq = words[LAST] + 1;
     let gap = name.len() + merge::kept(live, value).len();
     let front = Front {
         rows: rows,

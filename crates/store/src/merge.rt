@@ -1,4 +1,7 @@
 // Merging writes of ascending keys into a store, from the last to the first: each row and byte moves at most once.
+use memtable::COUNT;
+use memtable::LAST;
+use memtable::USED;
 use memtable::merge::Front;
 use memtable::read;
 ghost use mathlib.Core.Path.{_≡_};
@@ -188,7 +191,7 @@ pub fn renew_header(words: &mut [u64], count: usize, used: usize, last: u64)
     requires { ⌜ 5 ≤ length (now words) ⌝ }
     ensures { λ _. ⌜ now (words .exit) ≡ set (set (set (now (words .entry)) 0 count) 1 used) 2 last ⌝ }
 {
-    words[0] = read::wide(count);
-    words[1] = read::wide(used);
-    words[2] = last;
+    words[COUNT] = read::wide(count);
+    words[USED] = read::wide(used);
+    words[LAST] = last;
 }

@@ -1,5 +1,10 @@
 // Opening an empty store, and what a write leaves of some bytes.
 use crate::valid;
+use memtable::COUNT;
+use memtable::LAST;
+use memtable::MOST_BYTES;
+use memtable::MOST_VERSIONS;
+use memtable::USED;
 use memtable::open::Left;
 use memtable::read;
 ghost use mathlib.Core.Path.{_≡_};
@@ -14,11 +19,11 @@ fn write_header(words: &mut [u64], last: u64, versions: u64, size: u64)
     requires { ⌜ 5 ≤ length (now words) ⌝ }
     ensures { λ _. ⌜ now (words .exit) ≡ leaveWords (emptyStore last versions size) (now (words .entry)) ⌝ }
 {
-    words[0] = 0;
-    words[1] = 0;
-    words[2] = last;
-    words[3] = versions;
-    words[4] = size;
+    words[COUNT] = 0;
+    words[USED] = 0;
+    words[LAST] = last;
+    words[MOST_VERSIONS] = versions;
+    words[MOST_BYTES] = size;
 }
 
 // Writes an empty store with this last sequence and these capacities, if the buffers hold them. It has no bytes, so those stay.

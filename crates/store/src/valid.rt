@@ -1,5 +1,10 @@
 // Is a lent store valid by the layout? Total for every content of the words and bytes.
 use key::Order;
+use memtable::COUNT;
+use memtable::LAST;
+use memtable::MOST_BYTES;
+use memtable::MOST_VERSIONS;
+use memtable::USED;
 use memtable::read;
 use memtable::valid::Row;
 ghost use mathlib.Core.Path.{_≡_};
@@ -33,10 +38,10 @@ fn header_ok(words: &[u64], bytes: &[u8]) -> bool
         return false;
     }
     if buffers_hold(words, bytes, read::word(words, 3), read::word(words, 4)) {
-        if words[3] < words[0] {
+        if words[MOST_VERSIONS] < words[COUNT] {
             return false;
         }
-        if words[4] < words[1] {
+        if words[MOST_BYTES] < words[USED] {
             return false;
         }
         return true;
@@ -65,7 +70,7 @@ fn row_end(words: &[u64], i: usize, pos: usize) -> Row
     if rest < val_len {
         return Row::Bad;
     }
-    if words[2] < words[row + 3] {
+    if words[LAST] < words[row + 3] {
         return Row::Bad;
     }
     Row::End(used - (rest - val_len))

@@ -1,5 +1,19 @@
 // Whether one session in its own lent words and bytes is valid (layout at the head of `specs/Sessions.antt` of `server`), and all sixteen.
 use key::Order;
+use sessions::ARGUMENTS;
+use sessions::BYTES;
+use sessions::COUNTS;
+use sessions::IN_MULTI;
+use sessions::KEY_LENGTHS;
+use sessions::LENGTHS;
+use sessions::MOST_ARGUMENT_BYTES;
+use sessions::MOST_ARGUMENTS;
+use sessions::MOST_KEY_BYTES;
+use sessions::MOST_QUEUED;
+use sessions::MOST_WATCHED;
+use sessions::QUEUED;
+use sessions::WATCHED;
+use sessions::WORDS;
 ghost use mathlib.Core.Path.{_≡_};
 ghost use Prim.Native.Nat.{_+_, _-_, _<_, _≤_};
 ghost use lib.ListN.{length, getD};
@@ -10,10 +24,6 @@ ghost use Rattle.server.specs.Sessions.{splitBy, ascending, allPositive, allQue
 ghost use Rattle.server.specs.Lent.{OneSession, KeysIn, QueueIn, queueSizesOk};
 
 pub const SESSIONS: usize = 16;
-
-pub const WORDS: usize = 644;
-
-pub const BYTES: usize = 10240;
 
 // Is the key from `start` to `end` below the one from `end` to `next`?
 fn below(bytes: &[u8], start: usize, end: usize, next: usize) -> bool
@@ -37,10 +47,10 @@ fn keys_ascending(words: &[u64], bytes: &[u8], count: usize) -> bool
         return true;
     }
     let mut start = 0;
-    let mut end = sessions::word(words, 4);
+    let mut end = sessions::word(words, KEY_LENGTHS);
     let mut i = 1;
     while i < count {
-        let next = end + sessions::word(words, 4 + i);
+        let next = end + sessions::word(words, KEY_LENGTHS + i);
         if below(bytes, start, end, next) {
             start = end;
             end = next;
@@ -74,7 +84,7 @@ fn counts_positive(words: &[u64], count: usize) -> bool
 {
     let mut i = 0;
     while i < count {
-        if sessions::word(words, 68 + i) == 0 {
+        if sessions::word(words, COUNTS + i) == 0 {
             return false;
         }
         i += 1;
@@ -87,8 +97,8 @@ fn command_queueable(words: &[u64], bytes: &[u8], first: usize, start: usize, si
     requires { ⌜ (132 + first < length (now words)) × (2048 + start + getD (now words) (132 + first) 0 ≤ length (now bytes)) × (1 ≤ size) ⌝ }
     ensures { λ r. ⌜ r ≡ mayQueue (rowOf (part (2048 + start) (getD (now (words .entry)) (132 + first) 0) (now (bytes .entry)))) (size - 1) ⌝ }
 {
-    let from = 2048 + start;
-    let to = from + sessions::word(words, 132 + first);
+    let from = ARGUMENTS + start;
+    let to = from + sessions::word(words, LENGTHS + first);
     let row = names::look_up(&bytes[from..to]);
     names::may_queue(row, size - 1)
 }
@@ -102,9 +112,9 @@ fn commands_queueable(words: &[u64], bytes: &[u8], count: usize) -> bool
     let mut start = 0;
     let mut i = 0;
     while i < count {
-        let size = sessions::word(words, 68 + i);
+        let size = sessions::word(words, COUNTS + i);
         if command_queueable(words, bytes, first, start, size) {
-            start += sessions::sum_within(words, 132 + first, size, 8192);
+            start += sessions::sum_within(words, LENGTHS + first, size, MOST_ARGUMENT_BYTES);
             first += size;
             i += 1;
         } else {
@@ -119,11 +129,11 @@ fn watch_ok(words: &[u64], bytes: &[u8], last: u64) -> bool
     requires { ⌜ OneSession (now words) (now bytes) ⌝ }
     ensures { λ r. ⌜ r ≡ watchOk last (now (words .entry)) (now (bytes .entry)) ⌝ }
 {
-    let watched = sessions::word(words, 2);
-    if 32 < watched {
+    let watched = sessions::word(words, WATCHED);
+    if MOST_WATCHED < watched {
         return false;
     }
-    if 2048 < sessions::sum_within(words, 4, watched, 2048) {
+    if MOST_KEY_BYTES < sessions::sum_within(words, KEY_LENGTHS, watched, MOST_KEY_BYTES) {
         return false;
     }
     if keys_ascending(words, bytes, watched) {
@@ -137,15 +147,15 @@ fn queue_fits(words: &[u64]) -> bool
     requires { ⌜ length (now words) ≡ 644 ⌝ }
     ensures { λ r. ⌜ r ≡ queueSizesOk (now (words .entry)) ⌝ }
 {
-    let queued = sessions::word(words, 3);
-    if 64 < queued {
+    let queued = sessions::word(words, QUEUED);
+    if MOST_QUEUED < queued {
         return false;
     }
-    let arguments = sessions::sum_within(words, 68, queued, 512);
-    if 512 < arguments {
+    let arguments = sessions::sum_within(words, COUNTS, queued, MOST_ARGUMENTS);
+    if MOST_ARGUMENTS < arguments {
         return false;
     }
-    if 8192 < sessions::sum_within(words, 132, arguments, 8192) {
+    if MOST_ARGUMENT_BYTES < sessions::sum_within(words, LENGTHS, arguments, MOST_ARGUMENT_BYTES) {
         return false;
     }
     counts_positive(words, queued)
@@ -157,9 +167,9 @@ fn queue_ok(words: &[u64], bytes: &[u8]) -> bool
     ensures { λ r. ⌜ r ≡ queueOk (now (words .entry)) (now (bytes .entry)) ⌝ }
 {
     if queue_fits(words) {
-        let queued = sessions::word(words, 3);
+        let queued = sessions::word(words, QUEUED);
         if commands_queueable(words, bytes, queued) {
-            if words[0] == 0 {
+            if words[IN_MULTI] == 0 {
                 return queued == 0;
             }
             return true;

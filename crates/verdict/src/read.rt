@@ -1,5 +1,6 @@
 // What a command outside MULTI reads: the store at its last sequence, through no writes of its own.
 use encode::reply;
+use memtable::LAST;
 use number::Number;
 use reading::counter;
 use reading::live;
@@ -28,7 +29,7 @@ pub fn count_live(input: &[u8], places: &[u64], count: usize, words: &[u64], byt
         &bytes[..0],
         words,
         bytes,
-        words[2],
+        words[LAST],
         input,
         places,
         1,
@@ -49,7 +50,7 @@ pub fn held_number(words: &[u64], bytes: &[u8], name: &[u8]) -> Number
     requires { ⌜ Valid (now words) (now bytes) ⌝ }
     ensures { λ r. ⌜ r ≡ held (lastReader (now (words .entry)) (now (bytes .entry)) (now (name .entry))) ⌝ }
 {
-    counter::held_number(&words[..0], 0, &bytes[..0], words, bytes, words[2], name)
+    counter::held_number(&words[..0], 0, &bytes[..0], words, bytes, words[LAST], name)
 }
 
 // Writes the value of `name`, or nil.
@@ -65,7 +66,7 @@ pub fn put_value(out: &mut [u8], words: &[u64], bytes: &[u8], name: &[u8]) -> Pu
         &bytes[..0],
         words,
         bytes,
-        words[2],
+        words[LAST],
         name,
     )
 }
@@ -92,7 +93,7 @@ pub fn put_values(
         &bytes[..0],
         words,
         bytes,
-        words[2],
+        words[LAST],
         input,
         places,
         1,

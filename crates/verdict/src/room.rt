@@ -1,5 +1,6 @@
 // Room for the writes of one command, and the answer that the verdict and the reply make.
 use batch::Verdict;
+use memtable::LAST;
 use memtable::open::Left;
 use memtable::read;
 use server::Answer;
@@ -52,7 +53,7 @@ pub fn verdict_for(words: &[u64], writes: usize, left: Left) -> Verdict
     if read::word(words, 3) - read::word(words, 0) < writes {
         return Verdict::NoRoom;
     }
-    if !settle::has_sequences(words[2], writes) {
+    if !settle::has_sequences(words[LAST], writes) {
         return Verdict::NoSequence;
     }
     Verdict::Accepted

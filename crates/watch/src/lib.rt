@@ -3,6 +3,11 @@ use key::Order;
 use memtable::read;
 use server::watched::Grown;
 use server::watched::Spot;
+use sessions::KEY_LENGTHS;
+use sessions::KEY_SEQUENCES;
+use sessions::MOST_KEY_BYTES;
+use sessions::MOST_WATCHED;
+use sessions::WATCHED;
 ghost use mathlib.Core.Path.{_≡_};
 ghost use mathlib.Core.List.{[], _∷_};
 ghost use Prim.Native.Nat.{_+_, _-_, _≤_};
@@ -76,11 +81,11 @@ fn add_key(
     match spot {
         Spot::There => Grown::To(count, used),
         Spot::At(i, start) => {
-            if 32 <= count {
+            if MOST_WATCHED <= count {
                 return Grown::Full;
             }
             let len = name.len();
-            if 2048 - used < len {
+            if MOST_KEY_BYTES - used < len {
                 return Grown::Full;
             }
             insert_word(lens, i, count, len as u64);
@@ -157,11 +162,11 @@ pub fn grow(
     requires { ⌜ (1 ≤ count) × (length (now lens) ≡ 32) × (length (now seqs) ≡ 32) × (length (now text) ≡ 2048) ⌝ }
     ensures { λ r. ⌜ GrownTo (addKeys last (argumentsAt 1 (count - 1) (now (places .entry)) (now (input .entry))) (sessionFrom (now (words .entry)) (now (bytes .entry)) .watch)) (part 4 32 (now (words .entry))) (now (lens .exit)) (part 36 32 (now (words .entry))) (now (seqs .exit)) (part 0 2048 (now (bytes .entry))) (now (text .exit)) r ⌝ }
 {
-    let watched = sessions::word(words, 2);
-    let used = sessions::sum_within(words, 4, watched, 2048);
+    let watched = sessions::word(words, WATCHED);
+    let used = sessions::sum_within(words, KEY_LENGTHS, watched, MOST_KEY_BYTES);
     put_words(lens, 0, &words[4..36]);
     put_words(seqs, 0, &words[36..68]);
-    writing::put_at(text, 0, &bytes[0..2048]);
+    writing::put_at(text, 0, &bytes[0..MOST_KEY_BYTES]);
     add_keys(
         lens,
         seqs,
@@ -192,7 +197,7 @@ pub fn keep(
     put_words(words, 4, lens);
     put_words(words, 36, seqs);
     writing::put_at(bytes, 0, text);
-    words[2] = count as u64;
+    words[WATCHED] = count as u64;
 }
 
 // Has one of the watched keys a version above its sequence?
@@ -206,12 +211,12 @@ pub fn watched_moved(
     requires { ⌜ Valid (now words) (now bytes) ⌝ }
     ensures { λ r. ⌜ r ≡ anyMoved (versionsIn (now (words .entry)) (now (bytes .entry))) (sessionFrom (now («session_words» .entry)) (now («session_bytes» .entry)) .watch) ⌝ }
 {
-    let count = sessions::word(session_words, 2);
+    let count = sessions::word(session_words, WATCHED);
     let mut start = 0;
     let mut i = 0;
     while i < count {
-        let end = start + sessions::word(session_words, 4 + i);
-        let seq = session_words[36 + i];
+        let end = start + sessions::word(session_words, KEY_LENGTHS + i);
+        let seq = session_words[KEY_SEQUENCES + i];
         if read::moved(words, bytes, &session_bytes[start..end], seq) {
             return true;
         }
