@@ -3,7 +3,7 @@
 
     check_edits.py           after `bash .ci/run`; says what does not hold; exit status 1 if there is anything
 
-- Each edit of crates/*/must-fail has a row in section 9 of docs/THEOREMS.md, and each row an edit.
+- Each edit of crates/*/must-fail has a row in docs/theorems/edits.md, and each row an edit.
 - A fact that the row names fails by itself in the edit's log, and the first error is no missing name.
   Only the names of a tie and of record fields count as missing; another error of shape is not told apart.
 - Each public function of the crates in LEAVES is the fact of some edit.
@@ -25,12 +25,11 @@ def read(*words):
 
 
 def rows():
-    """Each edit of section 9 with the facts that its row names."""
-    section = read("docs", "THEOREMS.md").split("## 9. Must-fail edits", 1)[1]
-    for line in section.split("\n"):
+    """Each edit of docs/theorems/edits.md with the facts that its row names."""
+    for line in read("docs", "theorems", "edits.md").split("\n"):
         cells = [cell.strip() for cell in line.strip("|").split("|")]
-        if len(cells) == 3 and re.fullmatch(r"`[a-z_0-9]+/[a-z_0-9]+`", cells[0]):
-            yield cells[0].strip("`"), re.findall(r"`([a-z_0-9]+(?:!|::)[^`]+)`", cells[2])
+        if len(cells) == 3 and re.fullmatch(r"\[`[a-z_0-9]+/[a-z_0-9]+`\]", cells[0]):
+            yield cells[0].strip("[`]"), re.findall(r"`([a-z_0-9]+(?:!|::)[^`]+)`", cells[2])
 
 
 def log_of(edit):
@@ -63,7 +62,7 @@ def faults():
     facts = dict(rows())
     edits = {"/".join(p.split(os.sep)[-3::2])[:-5] for p in glob.glob(os.path.join(TOP, "crates", "*", "must-fail", "*.edit"))}
     for edit in sorted(edits - facts.keys()):
-        yield f"{edit}: no row in docs/THEOREMS.md"
+        yield f"{edit}: no row in docs/theorems/edits.md"
     for edit in sorted(facts.keys() - edits):
         yield f"{edit}: a row, and no edit"
     refused = set()
