@@ -16,7 +16,7 @@ import sys
 
 TOP = os.path.dirname(os.path.dirname(os.path.abspath(__file__)))
 LEAVES = "key writing number decimal resp utf8 headers bulk parse received replies clean encode items refusal array glob names sessions validity changes queue watch".split()
-WITHOUT = {"changes::unwatch"}  # its only line stands twice in its file, and an edit names a line that stands once
+WITHOUT = {"session_flags::unwatch"}  # its only line stands twice in its file, and an edit names a line that stands once
 
 
 def read(*words):

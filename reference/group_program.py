@@ -14,7 +14,7 @@ import model
 MOST_VALUE = 4096
 
 HEAD = """// Group calls made out of scripts: the number, the verdicts and the store after each.
-use batch::Member;
+use group_spec::Member;
 use libc::STDOUT_FILENO;
 use registry::group;
 use registry::open;

@@ -4,7 +4,7 @@ use std::path::PathBuf;
 
 fn main() {
     println!("cargo:rerun-if-env-changed=STATION_LIB");
-    let path = env::var_os("STATION_LIB").expect("set STATION_LIB to the path of libstation.a");
+    let path = env::var_os("STATION_LIB").expect("set STATION_LIB to the path of libregistry_c.a");
     let path = PathBuf::from(path).canonicalize().expect("STATION_LIB names no file");
     println!("cargo:rerun-if-changed={}", path.display());
     let folder = path.parent().expect("a file stands in a folder");

@@ -4,7 +4,7 @@
 set -u
 HERE=$(cd "$(dirname "$0")" && pwd)
 ROOT=$(dirname "$HERE")
-STATION_LIB=$(realpath "${1:?the path of libstation.a}")
+STATION_LIB=$(realpath "${1:?the path of libregistry_c.a}")
 REFERENCE=$(realpath "${2:-$ROOT/reference}")
 CALLS=${CALLS:-1000000}
 STATES=${STATES:-120000}

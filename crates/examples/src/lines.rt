@@ -1,8 +1,8 @@
 // Lines on standard output. Bytes are written as in a byte string: CR, LF and `\` are escaped, and a byte outside
 // ASCII's printed ones is `\x` and two digits.
+use base_writing::Put;
 use libc::STDOUT_FILENO;
-use resp::Span;
-use writing::Put;
+use resp_spec::Span;
 
 pub fn text(bytes: &[u8]) {
     io::write_all(STDOUT_FILENO, bytes);
@@ -46,7 +46,7 @@ pub fn escaped(bytes: &[u8]) {
 // What a writer put at the front of `buffer`, or `full`, and the line's end.
 pub fn written(buffer: &[u8], put: Put) {
     match put {
-        Put::Wrote(len) => escaped(refusal::part_of(buffer, Span { start: 0, len })),
+        Put::Wrote(len) => escaped(resp_faults::part_of(buffer, Span { start: 0, len })),
         Put::Full => text(b"full"),
     }
     byte(b'\n')

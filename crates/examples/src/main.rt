@@ -5,16 +5,16 @@ mod records;
 mod replies;
 mod requests;
 
+use command_spec::pattern::Compared;
 use libc::STDIN_FILENO;
-use server::pattern::Compared;
 
 // What a pattern answers to a name, which are two records, and the line's end.
 fn pattern(both: &[u8]) {
     let one = records::record_at(both, 0);
     let two = records::record_at(both, one.end);
-    let answer = glob::compare(
-        refusal::part_of(both, one.bytes),
-        refusal::part_of(both, two.bytes),
+    let answer = command_glob::compare(
+        resp_faults::part_of(both, one.bytes),
+        resp_faults::part_of(both, two.bytes),
     );
     match answer {
         Compared::Matches => lines::text(b"matches\n"),
@@ -41,7 +41,7 @@ fn show_all(input: &[u8]) {
     let mut turns = input.len();
     while 0 < turns {
         let one = records::record_at(input, at);
-        show(one.kind, refusal::part_of(input, one.bytes));
+        show(one.kind, resp_faults::part_of(input, one.bytes));
         at = one.end;
         turns -= 1;
     }

@@ -1,5 +1,5 @@
 // A record is a byte that tells its kind, three bytes of length, the highest first, and its bytes.
-use resp::Span;
+use resp_spec::Span;
 ghost use Prim.Native.Nat.{_<_};
 
 pub struct Record {

@@ -1,12 +1,12 @@
 // A reply, written item by item behind one another into a buffer whose size is the record's first byte. An item is a record.
 use crate::lines;
 use crate::records;
-use encode::reply;
-use number::Number;
-use number::integer;
-use resp::Letters;
-use server::Fixed;
-use writing::Put;
+use base_number::Number;
+use base_number::integer;
+use base_writing::Put;
+use command_spec::Fixed;
+use resp_encode::reply;
+use resp_spec::Letters;
 
 fn sum(a: Number, b: Number) -> Number {
     let Number::Int(x) = a else {
@@ -23,44 +23,44 @@ fn number(bytes: &[u8]) -> Number {
     let one = records::record_at(bytes, 0);
     let two = records::record_at(bytes, one.end);
     sum(
-        integer::int_arg(refusal::part_of(bytes, one.bytes)),
-        integer::int_arg(refusal::part_of(bytes, two.bytes)),
+        integer::int_arg(resp_faults::part_of(bytes, one.bytes)),
+        integer::int_arg(resp_faults::part_of(bytes, two.bytes)),
     )
 }
 
 // An integer reply for `:`, and otherwise the digits alone.
 fn put_number(kind: u8, out: &mut [u8], number: Number) -> Put {
     let Number::Int(z) = number else {
-        return writing::put_bytes(out, b"none");
+        return base_writing::put_bytes(out, b"none");
     };
     if kind == b':' {
         return reply::put_int(out, z);
     }
-    decimal::put_decimal(out, z)
+    base_decimal::put_decimal(out, z)
 }
 
 // A simple string or an error, behind its mark.
 fn put_line(mark: u8, out: &mut [u8], text: &[u8]) -> Put {
-    let marked = writing::put_byte(out, mark);
-    let line = clean::then_clean(out, marked, text, Letters::AsSent);
+    let marked = base_writing::put_byte(out, mark);
+    let line = resp_sanitize::then_clean(out, marked, text, Letters::AsSent);
     reply::then_crlf(out, line)
 }
 
 fn put_fixed(kind: u8, out: &mut [u8]) -> Put {
     match kind {
-        b'_' => items::then_nil(out, Put::Wrote(0)),
+        b'_' => resp_items::then_nil(out, Put::Wrote(0)),
         b'0' => reply::put_nil_array(out),
         b'c' => reply::put_bulk_digits(out, 18446744073709551615),
-        _ => errors::put_fixed(out, Fixed::ExecAbort),
+        _ => command_errors::put_fixed(out, Fixed::ExecAbort),
     }
 }
 
 fn put_quoted(kind: u8, out: &mut [u8], text: &[u8]) -> Put {
     match kind {
-        b'u' => errors::put_unknown(out, text),
-        b'q' => errors::put_not_queueable(out, text),
-        b'a' => errors::put_arity(out, text),
-        _ => clean::put_clean_lossy(out, text, Letters::AsSent),
+        b'u' => command_errors::put_unknown(out, text),
+        b'q' => command_errors::put_not_queueable(out, text),
+        b'a' => command_errors::put_arity(out, text),
+        _ => resp_sanitize::put_clean_lossy(out, text, Letters::AsSent),
     }
 }
 
@@ -83,13 +83,13 @@ fn reply_in(out: &mut [u8], bytes: &[u8]) {
     let mut turns = bytes.len();
     while 0 < turns {
         let one = records::record_at(bytes, at);
-        let from = writing::place(put, out.len());
+        let from = base_writing::place(put, out.len());
         let next = put_item(
             one.kind,
             &mut out[from..],
-            refusal::part_of(bytes, one.bytes),
+            resp_faults::part_of(bytes, one.bytes),
         );
-        put = writing::joined(out, put, next);
+        put = base_writing::joined(out, put, next);
         at = one.end;
         turns -= 1;
     }

@@ -1,10 +1,10 @@
 // The reader's answer to a request: `wait`, `too many`, the reply to a protocol error, or `whole` with the count of
 // arguments, the bytes used, and the arguments.
 use crate::lines;
-use parse::request;
-use resp::Fault;
-use resp::Read;
-use resp::Span;
+use resp_parse::request;
+use resp_spec::Fault;
+use resp_spec::Read;
+use resp_spec::Span;
 ghost use Prim.Native.Nat.{_≤_};
 
 // The longest argument that is written out; of a longer one the length is.
@@ -12,7 +12,7 @@ const MOST_SHOWN: usize = 64;
 
 fn fault(input: &[u8], fault: Fault) {
     let mut buffer = [0u8; 256];
-    let put = refusal::put_fault(&mut buffer, input, fault);
+    let put = resp_faults::put_fault(&mut buffer, input, fault);
     lines::written(&buffer, put)
 }
 
@@ -42,7 +42,7 @@ fn argument(bytes: &[u8]) {
 fn arguments(input: &[u8], places: &[u64], n: usize) {
     let mut i = 0;
     while i < n {
-        argument(refusal::part_of(input, place(places, i)));
+        argument(resp_faults::part_of(input, place(places, i)));
         i += 1;
     }
 }

@@ -8,7 +8,7 @@ use lib.Dec.{eqb}
 use lib.ListN.{length, take, drop, getD}
 use lib.Seq.{drop-cons}
 use borrow.Author.Tests.{eq-eqb, ne-eqb}
-use Rattle.key.specs.Bytes.{Bytes}
+use Rattle.base_key.specs.Bytes.{Bytes}
 use Rattle.frames.specs.Input.{lineLength}
 
 -- no LF from `from` on in front of `i`

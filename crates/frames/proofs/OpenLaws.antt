@@ -4,13 +4,13 @@ use native.Mathlib.Omega.{arith}
 use mathlib.Core.Path.{_≡_, sym, ap}
 use mathlib.Core.List.{List}
 use lib.ListN.{length, replicate, length-replicate}
-use Rattle.key.specs.Bytes.{Bytes}
-use Rattle.calls.specs.Calls.{lentOf, OpenPromise}
-use Rattle.calls.specs.Frames.{openConsole}
-use Rattle.calls.proofs.MadeLaws.{made}
-use Rattle.lines.proofs.OpenLaws.{opened-state, rests-none}
-use Rattle.console.specs.Answers.{consoleIn}
-use Rattle.console.specs.Steps.{Fit}
+use Rattle.base_key.specs.Bytes.{Bytes}
+use Rattle.call_spec.specs.Calls.{lentOf, OpenPromise}
+use Rattle.call_spec.specs.Frames.{openConsole}
+use Rattle.call_spec.proofs.MadeLaws.{made}
+use Rattle.frames_lines.proofs.OpenLaws.{opened-state, rests-none}
+use Rattle.frames_console.specs.Answers.{consoleIn}
+use Rattle.frames_console.specs.Steps.{Fit}
 
 fit-beside : (n m k : ℕ) {last versions size r : ℕ} {w w′ : List ℕ} {b b′ : Bytes} → 16 * 644 ≤ n → 16 * 10240 ≤ m → r ≡ 0 → OpenPromise last versions size w b r w′ b′
     → Fit (lentOf w′ b′ (replicate n 0) (replicate m 0)) (replicate k 0)

@@ -9,20 +9,20 @@ use lib.Dec.{ltb}
 use lib.ListN.{length}
 use borrow.Author.Tests.{ltb-true, le-leb, lt-leb}
 use borrow.Rule.Slice.PartMut.{midOf, mid-len}
-use Rattle.key.specs.Bytes.{Bytes, part}
-use Rattle.calls.specs.Calls.{Lent}
-use Rattle.console.specs.declared.serve.Progress.{Progress}
-use Rattle.lines.specs.declared.pieces.Mark.the-variants.{NoMark}
-use Rattle.lines.specs.Pieces.{MarkFits}
-use Rattle.console.specs.Steps.{Fit, Reached, SomeServed}
-use Rattle.console.specs.Answers.{roomMade}
-use Rattle.console.specs.declared.frame.Begun.{Begun}
-use Rattle.console.specs.declared.frame.Begun.the-variants.{Answered, Serve}
-use Rattle.lines.specs.Held.{countAt}
-use Rattle.console.specs.Lines.{filledOf, begunAs, Begins}
-use Rattle.console.proofs.BeginLaws.{given-bounds}
-use Rattle.console.proofs.TurnLaws.{InTurns, turns-none, turns-more}
-use Rattle.calls.specs.Frames as F
+use Rattle.base_key.specs.Bytes.{Bytes, part}
+use Rattle.call_spec.specs.Calls.{Lent}
+use Rattle.frames_console.specs.declared.serve.Progress.{Progress}
+use Rattle.frames_lines.specs.declared.pieces.Mark.the-variants.{NoMark}
+use Rattle.frames_lines.specs.Pieces.{MarkFits}
+use Rattle.frames_console.specs.Steps.{Fit, Reached, SomeServed}
+use Rattle.frames_console.specs.Answers.{roomMade}
+use Rattle.frames_console.specs.declared.frame.Begun.{Begun}
+use Rattle.frames_console.specs.declared.frame.Begun.the-variants.{Answered, Serve}
+use Rattle.frames_lines.specs.Held.{countAt}
+use Rattle.frames_console.specs.Lines.{filledOf, begunAs, Begins}
+use Rattle.frames_console.proofs.BeginLaws.{given-bounds}
+use Rattle.frames_console.proofs.TurnLaws.{InTurns, turns-none, turns-more}
+use Rattle.call_spec.specs.Frames as F
 use Rattle.frames.specs.Bounds.{Served}
 
 -- ROOM ON THE PAGE, by the test

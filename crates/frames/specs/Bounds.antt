@@ -1,7 +1,7 @@
 -- What the program keeps within its buffers.
 use Prim.Native.Nat.{ℕ, _+_, _≤_}
-use Rattle.console.specs.declared.serve.Progress.{Progress}
-use Rattle.lines.specs.Pieces.{MarkFits}
+use Rattle.frames_console.specs.declared.serve.Progress.{Progress}
+use Rattle.frames_lines.specs.Pieces.{MarkFits}
 
 -- the requests of a frame of `size` bytes, served
 pub record Served (size : ℕ) (r : Progress) : Type 0 where

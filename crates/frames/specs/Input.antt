@@ -3,7 +3,7 @@ use Prim.Native.Nat.{ℕ, suc, _+_, _-_, _*_, _≤_}
 use mathlib.Core.Bool.{cond}
 use mathlib.Core.List.{[], _∷_}
 use lib.Dec.{eqb}
-use Rattle.key.specs.Bytes.{Bytes}
+use Rattle.base_key.specs.Bytes.{Bytes}
 use Rattle.frames.specs.declared.Cursor.{Cursor}
 
 -- a line within what is read of the part, and room on the page for an answer without replies

@@ -1,22 +1,22 @@
 // The program `frames`: one line in, one line out.
-use console::frame;
-use console::frame::Begun;
-use console::serve;
-use console::serve::Progress;
+use frames_console::frame;
+use frames_console::frame::Begun;
+use frames_console::serve;
+use frames_console::serve::Progress;
+use frames_lines::pieces::Mark;
+use frames_lines::rest;
 use libc::STDIN_FILENO;
 use libc::STDOUT_FILENO;
-use lines::pieces::Mark;
-use lines::rest;
 use registry::open;
 ghost use Prim.Native.Nat.{_+_, _-_, _*_, _<_, _≤_, min};
 ghost use mathlib.Core.Path.{_≡_};
 ghost use lib.ListN.{drop, length, take};
-ghost use Rattle.key.specs.Bytes.{part};
-ghost use Rattle.calls.specs.Calls.{lentOf};
-ghost use Rattle.calls.specs.Frames.{openConsole};
-ghost use Rattle.lines.specs.Rest.{moved};
-ghost use Rattle.console.specs.Answers.{AllAnswered, LineAnswered, Output, TurnsServed, consoleIn, roomMade};
-ghost use Rattle.console.specs.Steps.{Fit};
+ghost use Rattle.base_key.specs.Bytes.{part};
+ghost use Rattle.call_spec.specs.Calls.{lentOf};
+ghost use Rattle.call_spec.specs.Frames.{openConsole};
+ghost use Rattle.frames_lines.specs.Rest.{moved};
+ghost use Rattle.frames_console.specs.Answers.{AllAnswered, LineAnswered, Output, TurnsServed, consoleIn, roomMade};
+ghost use Rattle.frames_console.specs.Steps.{Fit};
 ghost use Rattle.frames.specs.Bounds.{Served};
 ghost use Rattle.frames.specs.Input.{Within, inputLeft, lineLength};
 

@@ -1,5 +1,5 @@
 // Group calls on local arrays: each number with the verdict bytes, written to standard output.
-use batch::Member;
+use group_spec::Member;
 use libc::STDOUT_FILENO;
 use registry::group;
 use registry::open;

@@ -6,15 +6,15 @@ use mathlib.Core.Bool.{Bool, true, false, cond}
 use mathlib.Core.List.{List}
 use lib.ListN.{length}
 use borrow.Author.Tests.{leb-true}
-use Rattle.key.specs.Bytes.{Bytes, over-front}
-use Rattle.key.proofs.Bytes.{and-left, and-right}
-use Rattle.memtable.specs.Layout.{lastWord, validStore}
-use Rattle.memtable.proofs.Validity.{validated}
-use Rattle.batch.specs.declared.Member.{Member}
-use Rattle.batch.specs.Members.{membersInside, groupFits}
-use Rattle.batch.specs.Walked.{GroupReady, GroupLeft, groupOf}
-use Rattle.calls.specs.Calls.{StoreCalled, refusesStore, givesStore, judged, group-call, verdictBuffer, GroupPromise}
-use Rattle.numbers.specs.Numbers.{groupNumber}
+use Rattle.base_key.specs.Bytes.{Bytes, over-front}
+use Rattle.base_key.proofs.Bytes.{and-left, and-right}
+use Rattle.store_memtable.specs.Layout.{lastWord, validStore}
+use Rattle.store_memtable.proofs.Validity.{validated}
+use Rattle.group_spec.specs.declared.Member.{Member}
+use Rattle.group_spec.specs.Members.{membersInside, groupFits}
+use Rattle.group_spec.specs.Walked.{GroupReady, GroupLeft, groupOf}
+use Rattle.call_spec.specs.Calls.{StoreCalled, refusesStore, givesStore, judged, group-call, verdictBuffer, GroupPromise}
+use Rattle.call_numbers.specs.Numbers.{groupNumber}
 
 -- THE CALL
 module _ (ms : List Member) (parts : List ℕ) (d v : Bytes) (w : List ℕ) (b : Bytes) {inside : Bool} {n : ℕ}

@@ -3,10 +3,10 @@ use Prim.Native.Nat.{ℕ}
 use mathlib.Core.Path.{_≡_, sym, _∙_, ap}
 use mathlib.Core.Bool.{Bool, true, false, cond}
 use mathlib.Core.List.{List}
-use Rattle.memtable.specs.Layout.{buffersHold, emptyStore, leaveWords}
-use Rattle.memtable.proofs.Opening.{bytes-stay}
-use Rattle.calls.specs.Serve.{refused}
-use Rattle.calls.specs.Calls.{StoreCalled, refusesStore, givesStore, open-call, OpenPromise}
+use Rattle.store_memtable.specs.Layout.{buffersHold, emptyStore, leaveWords}
+use Rattle.store_memtable.proofs.Opening.{bytes-stay}
+use Rattle.call_spec.specs.Serve.{refused}
+use Rattle.call_spec.specs.Calls.{StoreCalled, refusesStore, givesStore, open-call, OpenPromise}
 
 module _ (last n m : ℕ) (w b : List ℕ) {r : Bool} (is : r ≡ buffersHold w b n m) {w′ : List ℕ}
     (words-are : w′ ≡ cond (buffersHold w b n m) (leaveWords (emptyStore last n m) w) w) where

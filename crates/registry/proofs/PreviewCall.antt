@@ -6,13 +6,13 @@ use mathlib.Core.Bool.{Bool, true, false}
 use mathlib.Core.List.{List}
 use lib.Dec.{ltb}
 use lib.ListN.{length, replicate, length-replicate}
-use Rattle.key.specs.Bytes.{Bytes}
-use Rattle.server.specs.Finish.{replyBuffer}
-use Rattle.decision.specs.declared.Preview.{Preview}
-use Rattle.decision.specs.Decided.{refusedPreview}
-use Rattle.calls.specs.Calls.{Lent, lentOf, valid, Called, refuses, preview-call, previewOf, PreviewPromise}
-use Rattle.calls.proofs.CallLaws.{preview-no-session, preview-not-valid}
-use Rattle.numbers.specs.Numbers.{requestNumber}
+use Rattle.base_key.specs.Bytes.{Bytes}
+use Rattle.command_spec.specs.Finish.{replyBuffer}
+use Rattle.exec_decision.specs.declared.Preview.{Preview}
+use Rattle.exec_decision.specs.Decided.{refusedPreview}
+use Rattle.call_spec.specs.Calls.{Lent, lentOf, valid, Called, refuses, preview-call, previewOf, PreviewPromise}
+use Rattle.call_spec.proofs.CallLaws.{preview-no-session, preview-not-valid}
+use Rattle.call_numbers.specs.Numbers.{requestNumber}
 use Rattle.registry.proofs.RequestCall.{number-as}
 
 module _ (i : ℕ) (w : List ℕ) (b : Bytes) (sw : List ℕ) (sb : Bytes) {n : ℕ} (n-is : n ≡ requestNumber i (lentOf w b sw sb)) (out : Bytes) {out₁ : Bytes} (cleared : out₁ ≡ replicate (length out) 0) where

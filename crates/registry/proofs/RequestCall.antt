@@ -7,14 +7,14 @@ use mathlib.Core.List.{List}
 use lib.Dec.{ltb}
 use lib.ListN.{length, replicate, length-replicate}
 use borrow.Author.Tests.{ltb-true}
-use Rattle.key.specs.Bytes.{Bytes}
-use Rattle.server.specs.declared.Answer.{Answer}
-use Rattle.server.specs.Finish.{replyBuffer}
-use Rattle.answer.specs.Answers.{refusal}
-use Rattle.calls.specs.Calls.{Lent, lentOf, valid, Called, refuses, answerOf, request-call, RequestPromise, TablePromise}
-use Rattle.numbers.specs.Numbers.{requestNumber}
-use Rattle.serving.specs.Serving.{ReadyAmong}
-use Rattle.calls.proofs.CallLaws.{no-session, not-valid}
+use Rattle.base_key.specs.Bytes.{Bytes}
+use Rattle.command_spec.specs.declared.Answer.{Answer}
+use Rattle.command_spec.specs.Finish.{replyBuffer}
+use Rattle.command_answer.specs.Answers.{refusal}
+use Rattle.call_spec.specs.Calls.{Lent, lentOf, valid, Called, refuses, answerOf, request-call, RequestPromise, TablePromise}
+use Rattle.call_numbers.specs.Numbers.{requestNumber}
+use Rattle.call_serve.specs.Serving.{ReadyAmong}
+use Rattle.call_spec.proofs.CallLaws.{no-session, not-valid}
 
 -- THE CALL
 module _ (i : ℕ) (w : List ℕ) (b : Bytes) (sw : List ℕ) (sb : Bytes) {n : ℕ} (n-is : n ≡ requestNumber i (lentOf w b sw sb)) where

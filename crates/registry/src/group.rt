@@ -1,11 +1,11 @@
 // A group of members, judged and committed in one call.
-use batch::Member;
-use memtable::LAST;
+use group_spec::Member;
+use store_memtable::LAST;
 ghost use mathlib.Core.Path.{_≡_};
 ghost use Prim.Native.Nat.{_<_};
 ghost use lib.ListN.{length};
-ghost use Rattle.memtable.specs.Layout.{lastWord};
-ghost use Rattle.calls.specs.Calls.{GroupPromise};
+ghost use Rattle.store_memtable.specs.Layout.{lastWord};
+ghost use Rattle.call_spec.specs.Calls.{GroupPromise};
 
 // The last sequence of a store.
 fn last(words: &[u64]) -> u64
@@ -26,11 +26,11 @@ pub fn group(
 ) -> u64
     ensures { λ r. ⌜ GroupPromise (now (members .entry)) (now (parts .entry)) (now («data» .entry)) (now (verdicts .entry)) (now (words .entry)) (now (bytes .entry)) r (now (verdicts .exit)) (now (words .exit)) (now (bytes .exit)) ⌝ }
 {
-    let inside = members::members_inside(members, parts, data);
-    let number = numbers::group_number(inside, members.len(), verdicts.len(), words, bytes);
+    let inside = group_walk::members_inside(members, parts, data);
+    let number = call_numbers::group_number(inside, members.len(), verdicts.len(), words, bytes);
     if number == 0 {
         let began = last(words);
-        members::settle_all(members, began, parts, data, words, bytes, verdicts);
+        group_walk::settle_all(members, began, parts, data, words, bytes, verdicts);
     }
     number
 }

@@ -1,6 +1,6 @@
 // A preview of EXEC of one of the sixteen sessions.
-use decision::Preview;
-ghost use Rattle.calls.specs.Calls.{PreviewPromise, lentOf};
+use exec_decision::Preview;
+ghost use Rattle.call_spec.specs.Calls.{PreviewPromise, lentOf};
 
 // What EXEC of a session would give: 0 or a number, the verdict (255: none is reached), the length of the reply, which stands in front of `out`
 // with zero behind it, and the last sequence that EXEC would leave. Store and sessions stay as they are.
@@ -14,10 +14,10 @@ pub fn preview(
 ) -> Preview
     ensures { λ r. ⌜ PreviewPromise session (now (out .entry)) (lentOf (now (words .entry)) (now (bytes .entry)) (now (swords .entry)) (now (sbytes .entry))) r (now (out .exit)) (lentOf (now (words .entry)) (now (bytes .entry)) (now (swords .entry)) (now (sbytes .entry))) ⌝ }
 {
-    writing::clear(out);
-    let number = numbers::request_number(session, words, bytes, swords, sbytes);
+    base_writing::clear(out);
+    let number = call_numbers::request_number(session, words, bytes, swords, sbytes);
     if number == 0 {
-        return serving::preview_session(session, words, bytes, swords, sbytes, out);
+        return call_serve::preview_session(session, words, bytes, swords, sbytes, out);
     }
-    decision::refusal(number)
+    exec_decision::refusal(number)
 }

@@ -1,8 +1,8 @@
 // A request on one of the sixteen sessions.
-use server::Answer;
+use command_spec::Answer;
 ghost use Prim.Native.Nat.{_/_};
 ghost use lib.ListN.{length};
-ghost use Rattle.calls.specs.Calls.{lentOf, RequestPromise, TablePromise};
+ghost use Rattle.call_spec.specs.Calls.{lentOf, RequestPromise, TablePromise};
 
 // Answers the request at the front of `input` for a session: 0 or a number, the bytes used, and the length of the reply,
 // which stands in front of `out` with zero behind it. `places` holds two words for each argument.
@@ -19,10 +19,10 @@ pub fn request(
     ensures { λ r. ⌜ RequestPromise session (now (input .entry)) (length (now (places .entry)) / 2) (now (out .entry)) (lentOf (now (words .entry)) (now (bytes .entry)) (now (swords .entry)) (now (sbytes .entry))) r (now (out .exit)) (lentOf (now (words .exit)) (now (bytes .exit)) (now (swords .exit)) (now (sbytes .exit))) ⌝ }
     ensures { λ _. ⌜ TablePromise session (now (input .entry)) (lentOf (now (words .entry)) (now (bytes .entry)) (now (swords .entry)) (now (sbytes .entry))) (now (places .entry)) (now (places .exit)) ⌝ }
 {
-    writing::clear(out);
-    let number = numbers::request_number(session, words, bytes, swords, sbytes);
+    base_writing::clear(out);
+    let number = call_numbers::request_number(session, words, bytes, swords, sbytes);
     if number == 0 {
-        return serving::serve_session(session, input, places, words, bytes, swords, sbytes, out);
+        return call_serve::serve_session(session, input, places, words, bytes, swords, sbytes, out);
     }
-    answer::refusal(number)
+    command_answer::refusal(number)
 }

@@ -3,8 +3,8 @@
 // `stdout` has the answers that document 02 asks for, from a reader that was written apart from this one.
 use libc::STDIN_FILENO;
 use libc::STDOUT_FILENO;
-use received::ReplyRead;
-use replies::table;
+use reply_item::ReplyRead;
+use reply_reader::table;
 ghost use Prim.Native.Nat.{_≤_};
 
 // The words of a table with sixteen places.
@@ -51,7 +51,7 @@ fn answer(read: ReplyRead) {
 }
 
 fn reading(input: &[u8], table: &mut [u64]) {
-    let read = replies::read_reply(input, table);
+    let read = reply_reader::read_reply(input, table);
     answer(read);
     words(table);
     text(b"\n")

@@ -1,9 +1,9 @@
 -- `frames::answer_all` meets its contract. The invariant: the line at hand is within what is read, memory is fit to be served, and all lines
 -- before it are answered. Assumes nothing.
-use Rattle.calls.specs.Calls.{lentOf}
-use Rattle.console.specs.Answers.{consoleIn, AllAnswered}
-use Rattle.console.specs.Steps.{Fit}
-use Rattle.console.proofs.OutputLaws.{output-on, output-room, answers-none, answers-on, answers-more}
+use Rattle.call_spec.specs.Calls.{lentOf}
+use Rattle.frames_console.specs.Answers.{consoleIn, AllAnswered}
+use Rattle.frames_console.specs.Steps.{Fit}
+use Rattle.frames_console.proofs.OutputLaws.{output-on, output-room, answers-none, answers-on, answers-more}
 use Rattle.frames.specs.Input.{Within, inputLeft}
 use borrow.Author.Needs.{needs}
 use Rattle.frames.proofs.answer_all.Statement.{statement}

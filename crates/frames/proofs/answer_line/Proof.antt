@@ -1,6 +1,6 @@
 -- `frames::answer_line` meets its contract. Assumes nothing.
 use native.Mathlib.Omega.{arith}
-use Rattle.console.proofs.LineAnswered.{line-answered, line-served}
+use Rattle.frames_console.proofs.LineAnswered.{line-answered, line-served}
 use Rattle.frames.proofs.TurnLaws.{serve-bounds, answered-bound}
 use borrow.Author.Needs.{needs}
 use Rattle.frames.proofs.answer_line.Statement.{statement}

@@ -3,8 +3,8 @@
 use Prim.Native.Nat.{_≤_}
 use mathlib.Core.Path.{_∙_}
 use lib.ListN.{take}
-use Rattle.console.specs.Answers.{Output}
-use Rattle.console.proofs.OutputLaws.{output-page, output-on, output-from, output-room}
+use Rattle.frames_console.specs.Answers.{Output}
+use Rattle.frames_console.proofs.OutputLaws.{output-page, output-on, output-from, output-room}
 use Rattle.frames.specs.Input.{Within, inputLeft}
 use borrow.Author.Needs.{needs}
 use Rattle.frames.proofs.next_line.Statement.{statement}

@@ -1,6 +1,6 @@
 -- `frames::serve_turns` meets its contract. The invariant: `InLoop`. Assumes nothing.
-use Rattle.calls.specs.Calls.{lentOf}
-use Rattle.console.proofs.TurnLaws.{turns-over}
+use Rattle.call_spec.specs.Calls.{lentOf}
+use Rattle.frames_console.proofs.TurnLaws.{turns-over}
 use Rattle.frames.proofs.TurnLaws.{InLoop, turnsLeft, loop-start, turn-less, turn-again, served-bounds}
 use borrow.Author.Needs.{needs}
 use Rattle.frames.proofs.serve_turns.Statement.{statement}

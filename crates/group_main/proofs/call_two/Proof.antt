@@ -45,10 +45,10 @@ use denote.Triple.Clauses.{ensured, lasts}
 use denote.Triple.Table.{entered, cited}
 use denote.Triple.Walked.{Stays, stay-none, stay-none-slice, gave-slice, walkOf, goes-none, goes-none-slice, goes-gave-slice, Walks, ends-at, walked, walk-meets}
 use denote.Exit.{yes}
-use Rattle.batch.specs.declared.Member.{Member}
-use Rattle.batch.proofs.Member as Mem
-use Rattle.batch.proofs.Member.Laws as Laws
-use Rattle.calls.specs.Calls.{GroupPromise}
+use Rattle.group_spec.specs.declared.Member.{Member}
+use Rattle.group_spec.proofs.Member as Mem
+use Rattle.group_spec.proofs.Member.Laws as Laws
+use Rattle.call_spec.specs.Calls.{GroupPromise}
 use Rattle.registry.proofs.group.group as grp
 use Rattle.registry.proofs.group.group.Symbol as grp-def
 use Rattle.registry.proofs.group.group.Symbol.{name as #registry·group·group}

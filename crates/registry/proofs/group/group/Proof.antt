@@ -43,27 +43,27 @@ use denote.Triple.Clauses.{ensured, lasts}
 use denote.Triple.Table.{entered, cited}
 use denote.Triple.Walked.{says, Stays, stay-none-slice, stay-slice, walkOf, goes-none-slice, goes-slice, Walks, ends-at, walked, walk-meets}
 use denote.Exit.{yes}
-use Rattle.memtable.specs.Layout.{lastWord}
-use Rattle.batch.specs.declared.Member.{Member}
-use Rattle.batch.specs.Members.{membersInside}
-use Rattle.batch.specs.Walked.{GroupReady, GroupLeft}
-use Rattle.batch.proofs.LendOn.{Kept, lend-on, take-back, Shown, lend-shared, shared-back}
-use Rattle.batch.proofs.Member as Mem
-use Rattle.members.proofs.members_inside as all-in
-use Rattle.members.proofs.members_inside.Symbol as all-in-def
-use Rattle.members.proofs.members_inside.Symbol.{name as #members·members-inside}
-use Rattle.members.proofs.members_inside.Met as all-in-thm
-use Rattle.members.proofs.settle_all as all-set
-use Rattle.members.proofs.settle_all.Symbol as all-set-def
-use Rattle.members.proofs.settle_all.Symbol.{name as #members·settle-all}
-use Rattle.members.proofs.settle_all.Met as all-set-thm
-use Rattle.calls.specs.Calls.{GroupPromise}
-use Rattle.numbers.specs.Numbers.{groupNumber}
+use Rattle.store_memtable.specs.Layout.{lastWord}
+use Rattle.group_spec.specs.declared.Member.{Member}
+use Rattle.group_spec.specs.Members.{membersInside}
+use Rattle.group_spec.specs.Walked.{GroupReady, GroupLeft}
+use Rattle.group_spec.proofs.LendOn.{Kept, lend-on, take-back, Shown, lend-shared, shared-back}
+use Rattle.group_spec.proofs.Member as Mem
+use Rattle.group_walk.proofs.members_inside as all-in
+use Rattle.group_walk.proofs.members_inside.Symbol as all-in-def
+use Rattle.group_walk.proofs.members_inside.Symbol.{name as #group-walk·members-inside}
+use Rattle.group_walk.proofs.members_inside.Met as all-in-thm
+use Rattle.group_walk.proofs.settle_all as all-set
+use Rattle.group_walk.proofs.settle_all.Symbol as all-set-def
+use Rattle.group_walk.proofs.settle_all.Symbol.{name as #group-walk·settle-all}
+use Rattle.group_walk.proofs.settle_all.Met as all-set-thm
+use Rattle.call_spec.specs.Calls.{GroupPromise}
+use Rattle.call_numbers.specs.Numbers.{groupNumber}
 use Rattle.registry.proofs.GroupCall.{group-words, group-ready, group-done, group-refused}
-use Rattle.numbers.proofs.group_number as num
-use Rattle.numbers.proofs.group_number.Symbol as num-def
-use Rattle.numbers.proofs.group_number.Symbol.{name as #numbers·group-number}
-use Rattle.numbers.proofs.group_number.Met as num-thm
+use Rattle.call_numbers.proofs.group_number as num
+use Rattle.call_numbers.proofs.group_number.Symbol as num-def
+use Rattle.call_numbers.proofs.group_number.Symbol.{name as #call-numbers·group-number}
+use Rattle.call_numbers.proofs.group_number.Met as num-thm
 use Rattle.registry.proofs.group.last as lst
 use Rattle.registry.proofs.group.last.Symbol as lst-def
 use Rattle.registry.proofs.group.last.Symbol.{name as #registry·group·last}
@@ -132,10 +132,10 @@ module _ {M : Type 1} (𝓤 : URA M) (H : Heap 𝓤) (A : Atoms 𝓤) (mem : Mem
 
   -- the callees' theorems at the tables
   record Known (C : Calls 𝓤 H) : Type 2 where
-    inside-known : Triple 𝓤 (C #members·members-inside) Inside
-    number-known : Triple 𝓤 (C #numbers·group-number) Number
+    inside-known : Triple 𝓤 (C #group-walk·members-inside) Inside
+    number-known : Triple 𝓤 (C #call-numbers·group-number) Number
     last-known : Triple 𝓤 (C #registry·group·last) Last
-    settle-known : Triple 𝓤 (C #members·settle-all) Settle
+    settle-known : Triple 𝓤 (C #group-walk·settle-all) Settle
 
 module _ {M : Type 1} (𝓤 : URA M) (H : Heap 𝓤) (A : Atoms 𝓤) (W : Given 𝓤 H A) (mem : Memory → SProp 𝓤) (run : Routine → Fun 𝓤)
     (κm κp κd κv κw κb : Lft) (qm qp qd qv qw qb : Share) (bm om : ℕ) (γm : GName) (ms : List Member) (xp : RefT (List ℕ)) (xd : RefT (List ℕ))
@@ -486,8 +486,8 @@ group-spec 𝓤 H 𝓜 𝓖 𝓡 =
     (tables 𝓤 H 𝓜 𝓡 code.env .C) (tables 𝓤 H 𝓜 𝓡 code.env .Λ) #registry·group·group code.function (code.unfolded 𝓤 H 𝓜 𝓡)
     (group-meets 𝓤 H (𝓖 .A) (givenOf 𝓤 H 𝓜 𝓖) (𝓜 .mem) (𝓡 .run) (tablesOf 𝓤 H 𝓜 (tables 𝓤 H 𝓜 𝓡 code.env))
     (record {
-      inside-known = cited 𝓤 H (Inside 𝓤 H (𝓖 .A) (𝓜 .mem) (𝓡 .run)) 𝓜 𝓡 code.env #members·members-inside all-in-def.routine code.calls-members·members-inside (all-in-thm.met 𝓤 H 𝓜 𝓖 𝓡);
-      number-known = cited 𝓤 H (Number 𝓤 H (𝓖 .A) (𝓜 .mem) (𝓡 .run)) 𝓜 𝓡 code.env #numbers·group-number num-def.routine code.calls-numbers·group-number (num-thm.met 𝓤 H 𝓜 𝓖 𝓡);
+      inside-known = cited 𝓤 H (Inside 𝓤 H (𝓖 .A) (𝓜 .mem) (𝓡 .run)) 𝓜 𝓡 code.env #group-walk·members-inside all-in-def.routine code.calls-group-walk·members-inside (all-in-thm.met 𝓤 H 𝓜 𝓖 𝓡);
+      number-known = cited 𝓤 H (Number 𝓤 H (𝓖 .A) (𝓜 .mem) (𝓡 .run)) 𝓜 𝓡 code.env #call-numbers·group-number num-def.routine code.calls-call-numbers·group-number (num-thm.met 𝓤 H 𝓜 𝓖 𝓡);
       last-known = cited 𝓤 H (Last 𝓤 H (𝓖 .A) (𝓜 .mem) (𝓡 .run)) 𝓜 𝓡 code.env #registry·group·last lst-def.routine code.calls-registry·group·last (lst-thm.met 𝓤 H 𝓜 𝓖 𝓡);
-      settle-known = cited 𝓤 H (Settle 𝓤 H (𝓖 .A) (𝓜 .mem) (𝓡 .run)) 𝓜 𝓡 code.env #members·settle-all all-set-def.routine code.calls-members·settle-all (all-set-thm.met 𝓤 H 𝓜 𝓖 𝓡);
+      settle-known = cited 𝓤 H (Settle 𝓤 H (𝓖 .A) (𝓜 .mem) (𝓡 .run)) 𝓜 𝓡 code.env #group-walk·settle-all all-set-def.routine code.calls-group-walk·settle-all (all-set-thm.met 𝓤 H 𝓜 𝓖 𝓡);
     }))

@@ -1,8 +1,0 @@
--- What the code answers of a header, turned into what the definitions of requests say.
-use Rattle.resp.specs.Request.{Counted, counts, wrong}
-use Rattle.headers.specs.declared.Count.{Count}
-use Rattle.headers.specs.declared.Count.the-variants.{Counts, Wrong}
-
-abbrev pub countedOf : Count → Counted
-countedOf (Counts n) = counts n
-countedOf (Wrong f) = wrong f
