@@ -18,7 +18,8 @@ use Rattle.group_spec.specs.Group.{plain, verdictAlone, isAccepted, verdictByte
 use Rattle.group_spec.specs.Settling.{KeyIn}
 use Rattle.command_spec.specs.declared.Answer.{Answer}
 use Rattle.command_spec.specs.Names.{Args, Row, rowOf, nameWord, arguments, countRight, withOptions, operationOf, arity, controlOf}
-use Rattle.command_names.specs.Rows.{rowAt, Looked}
+use Rattle.command_names.specs.declared.Row.{Row as CodeRow}
+use Rattle.command_names.specs.Rows.{Looked}
 use Rattle.command_spec.specs.Command.{Effect, Executed, runs, lists, setOptions, executedOf, run}
 use Rattle.command_spec.specs.Session.{watchedKeys, Session, Result, number, reply, Done, says, returns, committed, direct, execute, respond, addKeys, watchFits, enqueue, queueUp, queueFits, queuedReply, marked}
 use Rattle.command_spec.specs.Sessions.{yes?, queueIn, queueOf, sessionFrom, sessionWords, sessionBytes}
@@ -119,6 +120,11 @@ module _ {w : List ℕ} {b : Bytes} {s : List ℕ} {sb out : Bytes} (z : Ready w
   pub ready-held : Held s sb
   ready-held = held-by-tests (lastWord w) s sb (z .one) (z .ok)
 
+-- the row of the name that stands first
+pub name-looked : (count : ℕ) (places : List ℕ) (input : Bytes) {row : CodeRow} {word : Bytes} → 1 ≤ count → word ≡ part (getD places 0 0) (getD places 1 0) input → Looked word row
+    → Looked (nameWord (argumentsAt 0 count places input)) row
+name-looked count places input {row} many n l = subst (λ (x : Bytes). Looked x row) (sym (name-first count places input many ∙ sym n)) l
+
 -- THE REQUEST, by its route
 module _ (used count : ℕ) (places : List ℕ) (input : Bytes) (w : List ℕ) (b : Bytes) (s : List ℕ) (sb out : Bytes) where
   abbrev asked : Args
@@ -127,13 +133,13 @@ module _ (used count : ℕ) (places : List ℕ) (input : Bytes) (w : List ℕ) (
   abbrev whole : Served
   whole = finish (length out) used (respond asked (storeIn w b) (sessionFrom s sb)) (storeIn w b) (sessionFrom s sb)
 
-  module _ {row : ℕ} {word : Bytes} {route : Route} (z : Ready w b s sb out) (many : 1 ≤ count) (n : word ≡ part (getD places 0 0) (getD places 1 0) input)
-      (l : Looked word row) (e : route ≡ routeBy (yes? (getD s 0 0)) (controlOf (rowAt row .name)) (rowAt row .queueable)) where
+  module _ {row : CodeRow} {word : Bytes} {route : Route} (z : Ready w b s sb out) (many : 1 ≤ count) (n : word ≡ part (getD places 0 0) (getD places 1 0) input)
+      (l : Looked word row) (e : route ≡ routeBy (yes? (getD s 0 0)) (controlOf (row .name)) (row .queueable)) where
     named : nameWord asked ≡ word
     named = name-first count places input many ∙ sym n
 
     looked : Looked (nameWord asked) row
-    looked = subst (λ (x : Bytes). Looked x row) (sym named) l
+    looked = name-looked count places input many n l
 
     module _ {r : Answer} {out′ : Bytes} where
       pub here-left : {way : Way} {last : ℕ} {s′ : List ℕ} {sb′ : Bytes} → route ≡ Here way → last ≡ getD w 2 0

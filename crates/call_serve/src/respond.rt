@@ -57,6 +57,15 @@ pub fn respond(
             used,
         ),
         Route::Exec => transaction::exec(swords, sbytes, words, bytes, out, used),
-        Route::Run => command_direct::run_command(input, places, count, used, words, bytes, out),
+        Route::Run => command_direct::run_command(
+            row,
+            input,
+            places,
+            count,
+            used,
+            words,
+            bytes,
+            out,
+        ),
     }
 }

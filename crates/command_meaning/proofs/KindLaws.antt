@@ -10,7 +10,7 @@ use borrow.Author.Tests.{leb-true, ltb-false, eqb-true, eq-eqb, ne-eqb}
 use lib.Dec.{leb, eqb}
 use lib.IntN.{ℤ, pos, negsuc}
 use lib.Signed.{mag}
-use lib.ListN.{length, getD, List·getD-map}
+use lib.ListN.{length, getD, drop}
 use mir.Syntax.{w64}
 use mir.Val.{SFits}
 use mir.ValLaws.{toZ-ofZ}
@@ -27,10 +27,12 @@ use Rattle.command_spec.specs.declared.Operation.the-variants.{Get, Set, Del, E
 use Rattle.command_spec.specs.declared.Name.{Name}
 use Rattle.command_spec.specs.declared.Name.the-variants.{Queueable}
 use Rattle.command_spec.specs.declared.Fixed.the-variants.{NotInteger, Pong}
-use Rattle.command_spec.specs.Names.{Args, Row, rows, unknownRow, rowOf, nameWord, arguments, countRight, withOptions, operationOf, mayQueue, requestQueueable, notAbove}
+use Rattle.command_spec.specs.Names.{Args, Row, rows, unknownRow, sameName, rowIn, rowOf, nameWord, arguments, countRight, withOptions, operationOf, mayQueue, requestQueueable, notAbove}
 use Rattle.command_spec.specs.Command.{argument, countBy, pairsOf, requestOperation, commandAs, held, raised, run}
 use Rattle.command_spec.specs.Errors.{fixedReply}
-use Rattle.command_names.specs.Rows.{rowAt, Looked}
+use Rattle.command_spec.proofs.Pins.{queueable-named}
+use Rattle.command_names.specs.declared.Row.{Row as CodeRow}
+use Rattle.command_names.specs.Rows.{rowAt, rowMeant, Looked}
 use Rattle.command_meaning.specs.declared.Read.{Read}
 use Rattle.command_meaning.specs.declared.Read.the-variants.{Value, Live, Values, Echo, Says}
 use Rattle.command_meaning.specs.declared.Kind.{Kind}
@@ -185,49 +187,64 @@ module _ (o : Operation) (count : ℕ) (right : countRight (rowAt (rowPlace (Que
     echo-does e = kind-same o a count e (record { effect = λ r. ap (λ (k : Bytes). (BulkString k, [])) (behind 0 a); counted = least-as e })
 
 -- A QUEUED REQUEST, by the row of its name
-place-right : map (λ (r : Row). rowAt (rowPlace (r .name))) rows ≡ rows
+abbrev placed : Row → Row
+placed r = rowAt (rowPlace (r .name))
+
+place-right : map placed rows ≡ rows
 unfolding rows rowAt rowPlace
 place-right = refl
 
-pub place-at : (k : ℕ) → rowAt (rowPlace (rowAt k .name)) ≡ rowAt k
-unfolding rows rowAt rowPlace
-place-at k = sym (List·getD-map (λ (r : Row). rowAt (rowPlace (r .name))) rows k unknownRow) ∙ ap (λ (l : List Row). getD l k unknownRow) place-right
+place-in : (rs : List Row) (word : Bytes) → map placed rs ≡ rs → placed (rowIn rs word) ≡ rowIn rs word
+unfolding rowIn rows rowAt rowPlace
+place-in [] word e = refl
+place-in (r ∷ rs) word e = go (sameName word (r .text)) (place-in rs word (ap (drop 1) e))
+  where
+    go : (b : Bool) → placed (rowIn rs word) ≡ rowIn rs word → placed (elim b [ true ↦ r | false ↦ rowIn rs word ]) ≡ elim b [ true ↦ r | false ↦ rowIn rs word ]
+    go true again = ap (λ (l : List Row). getD l 0 unknownRow) e
+    go false again = again
+
+-- the place of a row that a look-up found
+pub place-of : (row : CodeRow) {word : Bytes} → Looked word row → rowAt (rowPlace (row .name)) ≡ rowMeant row
+unfolding rowOf
+place-of row {word} looked = ap placed (looked .is) ∙ place-in rows word place-right ∙ sym (looked .is)
 
 off : (b : Bool) → not b ≡ true → b ≡ false
 off false e = refl
 off true e = absurd (false≢true e)
 
-module _ (a : Args) {count k : ℕ} (l : length a ≡ count) {w : Bytes} (w-is : w ≡ argument 0 a) (looked : Looked w k)
+module _ (a : Args) {count : ℕ} {row : CodeRow} (l : length a ≡ count) {w : Bytes} (w-is : w ≡ argument 0 a) (looked : Looked w row)
     (may : requestQueueable a ≡ true) where
-  may-here : mayQueue (rowAt k) (count - 1) ≡ true
+  here : rowMeant row ≡ rowOf (nameWord a)
+  here = looked .is ∙ ap rowOf (w-is ∙ name-first a)
+
+  may-here : mayQueue (rowMeant row) (count - 1) ≡ true
   unfolding requestQueueable
-  may-here =
-      (λ z. mayQueue ((looked .is ∙ ap rowOf (w-is ∙ name-first a)) z) (sym (behind-count a ∙ ap (λ (n : ℕ). n - 1) l) z)) ∙ may
+  may-here = (λ z. mayQueue (here z) (sym (behind-count a ∙ ap (λ (n : ℕ). n - 1) l) z)) ∙ may
 
-  pub queueable-here : rowAt k .queueable ≡ true
+  counted-here : (row .queueable && countRight (rowMeant row) (count - 1)) ≡ true
   unfolding mayQueue
-  queueable-here =
-      both-parts (rowAt k .queueable) (countRight (rowAt k) (count - 1))
-      (both-parts (rowAt k .queueable && countRight (rowAt k) (count - 1)) (not (withOptions (operationOf (rowAt k .name)) (count - 1))) may-here .0) .0
+  counted-here = both-parts (row .queueable && countRight (rowMeant row) (count - 1)) (not (withOptions (operationOf (row .name)) (count - 1))) may-here .0
 
-  module _ {o : Operation} (o-is : rowAt k .name ≡ Queueable o) where
+  module _ {o : Operation} (o-is : o ≡ operationOf (row .name)) where
+    named : row .name ≡ Queueable o
+    named =
+        let q : row .queueable ≡ true = both-parts (row .queueable) (countRight (rowMeant row) (count - 1)) counted-here .0 in
+        ap (λ (r : Row). r .name) here ∙ queueable-named (nameWord a) (ap (λ (r : Row). r .queueable) (sym here) ∙ q)
+        ∙ ap (λ (r : Row). Queueable (operationOf (r .name))) (sym here) ∙ ap Queueable (sym o-is)
+
     pub queued-count : countRight (rowAt (rowPlace (Queueable o))) (count - 1) ≡ true
-    unfolding mayQueue
     queued-count =
-        ap (λ (r : Row). countRight r (count - 1)) (ap (λ (x : Name). rowAt (rowPlace x)) (sym o-is) ∙ place-at k)
-        ∙ both-parts (rowAt k .queueable) (countRight (rowAt k) (count - 1))
-        (both-parts (rowAt k .queueable && countRight (rowAt k) (count - 1)) (not (withOptions (operationOf (rowAt k .name)) (count - 1))) may-here .0) .1
+        ap (λ (r : Row). countRight r (count - 1)) (ap (λ (x : Name). rowAt (rowPlace x)) (sym named) ∙ place-of row looked)
+        ∙ both-parts (row .queueable) (countRight (rowMeant row) (count - 1)) counted-here .1
 
     pub queued-plain : withOptions o (count - 1) ≡ false
     unfolding mayQueue
     queued-plain =
-        ap (λ (x : Name). withOptions (operationOf x) (count - 1)) (sym o-is)
-        ∙ off _ (both-parts (rowAt k .queueable && countRight (rowAt k) (count - 1)) (not (withOptions (operationOf (rowAt k .name)) (count - 1))) may-here .1)
+        ap (λ (x : Operation). withOptions x (count - 1)) o-is
+        ∙ off _ (both-parts (row .queueable && countRight (rowMeant row) (count - 1)) (not (withOptions (operationOf (row .name)) (count - 1))) may-here .1)
 
     pub queued-does : {x : Kind} → KindIs o a count x → KindIs (requestOperation a) a count x
-    queued-does {x} h =
-        kind-same (requestOperation a) a count
-        (ap (λ (r : Row). operationOf (r .name)) (sym (looked .is ∙ ap rowOf (w-is ∙ name-first a))) ∙ ap operationOf o-is) h
+    queued-does {x} h = kind-same (requestOperation a) a count (ap (λ (r : Row). operationOf (r .name)) (sym here) ∙ sym o-is) h
 
 -- THE ARGUMENT COUNT of each kind
 module _ {k : Kind} {count : ℕ} (h : KindCounted k count) where

@@ -11,10 +11,11 @@ use Rattle.command_spec.specs.declared.Name.{Name}
 use Rattle.command_spec.specs.declared.Name.the-variants.{Queueable, Dbsize, Keys, Scan, Range, Multi, Exec, Discard, Watch, Unwatch, Quit, Unknown}
 use Rattle.command_spec.specs.declared.Fixed.the-variants.{SetOptions}
 use Rattle.command_spec.specs.Names.{Args, Row, rows, rowOf, nameWord, arguments, arity, countRight, withOptions, operationOf}
-use Rattle.command_spec.specs.Command.{KEYS, runs, lists, fixed, unknownCommand, setOptions, commandAs, argument, executedAs, executedOf}
+use Rattle.command_spec.specs.Command.{KEYS, runs, lists, fixed, unknownCommand, setOptions, commandAs, executedAs, executedOf}
 use Rattle.command_spec.specs.Errors.{fixedReply}
 use Rattle.command_spec.proofs.ErrorTexts.{arity-as-sent}
-use Rattle.command_names.specs.Rows.{rowAt, Looked}
+use Rattle.command_names.specs.declared.Row.{Row as CodeRow}
+use Rattle.command_names.specs.Rows.{rowAt, rowMeant, Looked}
 use Rattle.command_meaning.specs.declared.Kind.{Kind}
 use Rattle.command_meaning.specs.declared.Listing.the-variants as listing
 use Rattle.command_meaning.specs.declared.Refusal.the-variants as refusal
@@ -23,7 +24,7 @@ use Rattle.command_meaning.specs.declared.Executed.the-variants.{Runs, L
 use Rattle.command_meaning.specs.Kinds.{KindIs}
 use Rattle.command_meaning.specs.Meant.{listingMeant, refusalReply, executedMeant, ListingCounted, Counted, ExecutedIs}
 use Rattle.command_meaning.specs.Reading.{rowPlace, MeansAs}
-use Rattle.command_meaning.proofs.KindLaws.{behind, behind-count, name-first, right-least, right-most, place-at}
+use Rattle.command_meaning.proofs.KindLaws.{behind, behind-count, right-least, right-most, place-of}
 
 -- THE ARMS, by the name
 module _ (name : Name) (a : Args) (count : ℕ) {x : Name} (named : name ≡ x) where
@@ -80,12 +81,12 @@ module _ (name : Name) (count : ℕ) {o : Operation} (e : name ≡ Queueable o) 
       })
 
 -- THE WHOLE REQUEST, by the row of its name
-module _ (k n : ℕ) {name : Name} (name-is : name ≡ rowAt k .name) where
-  pub right-named : {b : Bool} → b ≡ countRight (rowAt k) n → b ≡ true → countRight (rowAt (rowPlace name)) n ≡ true
-  right-named b-is e = ap (λ (r : Row). countRight r n) (ap (λ (x : Name). rowAt (rowPlace x)) name-is ∙ place-at k) ∙ sym b-is ∙ e
+module _ (row : CodeRow) (n : ℕ) where
+  pub right-named : {w : Bytes} → Looked w row → {b : Bool} → b ≡ countRight (rowMeant row) n → b ≡ true → countRight (rowAt (rowPlace (row .name))) n ≡ true
+  right-named looked b-is e = ap (λ (r : Row). countRight r n) (place-of row looked) ∙ sym b-is ∙ e
 
-  pub plain-named : {b : Bool} → b ≡ withOptions (operationOf (rowAt k .name)) n → b ≡ false → withOptions (operationOf name) n ≡ false
-  plain-named b-is e = ap (λ (x : Name). withOptions (operationOf x) n) name-is ∙ sym b-is ∙ e
+  pub plain-named : {b : Bool} → b ≡ withOptions (operationOf (row .name)) n → b ≡ false → withOptions (operationOf (row .name)) n ≡ false
+  plain-named b-is e = sym b-is ∙ e
 
 executed-as : (a : Args) {r : Row} {n : ℕ} {b : Bool} → rowOf (nameWord a) ≡ r → length (arguments a) ≡ n → countRight r n ≡ b
     → executedOf a ≡ cond b (executedAs (r .name) (nameWord a) (arguments a)) (fixed (arity r))
@@ -110,30 +111,30 @@ options-said Unwatch word a e = absurd (false≢true e)
 options-said Quit word a e = absurd (false≢true e)
 options-said Unknown word a e = absurd (false≢true e)
 
-module _ (a : Args) {count k : ℕ} (l : length a ≡ count) {w : Bytes} (w-is : w ≡ argument 0 a) (looked : Looked w k) {b : Bool}
-    (b-is : b ≡ countRight (rowAt k) (count - 1)) where
-  row-here : rowOf (nameWord a) ≡ rowAt k
-  row-here = sym (looked .is ∙ ap rowOf (w-is ∙ name-first a))
+module _ (a : Args) {count : ℕ} {row : CodeRow} (l : length a ≡ count) (looked : Looked (nameWord a) row) {b : Bool}
+    (b-is : b ≡ countRight (rowMeant row) (count - 1)) where
+  row-here : rowOf (nameWord a) ≡ rowMeant row
+  row-here = sym (looked .is)
 
   counted-here : length (arguments a) ≡ count - 1
   counted-here = behind-count a ∙ ap (λ (n : ℕ). n - 1) l
 
-  request-as : {t : Bool} → b ≡ t → executedOf a ≡ cond t (executedAs (rowAt k .name) (nameWord a) (arguments a)) (fixed (arity (rowAt k)))
+  request-as : {t : Bool} → b ≡ t → executedOf a ≡ cond t (executedAs (row .name) (nameWord a) (arguments a)) (fixed (arity (rowMeant row)))
   request-as e = executed-as a row-here counted-here (sym b-is ∙ e)
 
-  pub right-count : b ≡ true → {name : Name} → name ≡ rowAt k .name → {r : CodeExecuted} → MeansAs name a count r → ExecutedIs a count r
-  right-count e {name} n-is {r} m =
-      let here : name ≡ rowOf (nameWord a) .name = n-is ∙ ap (λ (x : Row). x .name) (sym row-here) in
+  pub right-count : b ≡ true → {r : CodeExecuted} → MeansAs (row .name) a count r → ExecutedIs a count r
+  right-count e {r} m =
+      let here : row .name ≡ rowOf (nameWord a) .name = ap (λ (x : Row). x .name) (sym row-here) in
       let means : MeansAs (rowOf (nameWord a) .name) a count r = subst (λ (x : Name). MeansAs x a count r) here m in
       record {
         is = request-as e ∙ ap (λ (x : Row). executedAs (x .name) (nameWord a) (arguments a)) (sym row-here) ∙ means .is;
         counted = means .counted;
       }
 
-  pub with-options : b ≡ true → {o : Bool} → o ≡ withOptions (operationOf (rowAt k .name)) (count - 1) → o ≡ true → ExecutedIs a count (Refused (refusal.Says SetOptions))
+  pub with-options : b ≡ true → {o : Bool} → o ≡ withOptions (operationOf (row .name)) (count - 1) → o ≡ true → ExecutedIs a count (Refused (refusal.Says SetOptions))
   unfolding executedMeant refusalReply fixedReply Counted
   with-options e o-is t = record {
-    is = request-as e ∙ options-said (rowAt k .name) (nameWord a) (arguments a) (ap (withOptions (operationOf (rowAt k .name))) counted-here ∙ sym o-is ∙ t);
+    is = request-as e ∙ options-said (row .name) (nameWord a) (arguments a) (ap (withOptions (operationOf (row .name))) counted-here ∙ sym o-is ∙ t);
     counted = tt;
   }
 

@@ -72,5 +72,6 @@ pub fn kind_at(data: &[u8], places: &[u64], count: usize) -> Kind
     ensures { λ r. ⌜ KindIs (requestOperation (argumentsAt 0 count (now (places .entry)) (now («data» .entry)))) (argumentsAt 0 count (now (places .entry)) (now («data» .entry))) count r ⌝ }
 {
     let row = command_names::look_up(argument(data, places, count, 0));
-    kind_of(command_names::operation_at(row), data, places, count)
+    let name = row.name;
+    kind_of(command_names::operation_of(name), data, places, count)
 }

@@ -4,14 +4,14 @@ pub mod arguments;
 pub mod kinds;
 pub mod options;
 
-use arguments::argument;
+use command_names::Row;
 use command_spec::Fixed;
 use command_spec::Name;
 ghost use mathlib.Core.Path.{_≡_};
 ghost use mathlib.Core.Bool.{true, false};
 ghost use Prim.Native.Nat.{_-_, _≤_};
-ghost use Rattle.command_spec.specs.Names.{countRight, withOptions, operationOf};
-ghost use Rattle.command_names.specs.Rows.{rowAt};
+ghost use Rattle.command_spec.specs.Names.{nameWord, countRight, withOptions, operationOf};
+ghost use Rattle.command_names.specs.Rows.{rowAt, Looked};
 ghost use Rattle.command_spec.specs.Places.{argumentsAt, PartsIn};
 ghost use Rattle.command_meaning.specs.Meant.{ExecutedIs};
 ghost use Rattle.command_meaning.specs.Reading.{rowPlace, MeansAs};
@@ -86,18 +86,19 @@ fn named(name: Name, input: &[u8], places: &[u64], count: usize) -> Executed
     }
 }
 
-// What a request means.
-pub fn executed_of(input: &[u8], places: &[u64], count: usize) -> Executed
+// What a request means, by the row of its name.
+pub fn executed_of(row: Row, input: &[u8], places: &[u64], count: usize) -> Executed
     requires { ⌜ PartsIn (now places) (now input) count ⌝ }
     requires { ⌜ 1 ≤ count ⌝ }
+    requires { ⌜ Looked (nameWord (argumentsAt 0 count (now places) (now input))) row ⌝ }
     ensures { λ r. ⌜ ExecutedIs (argumentsAt 0 count (now (places .entry)) (now (input .entry))) count r ⌝ }
 {
-    let row = command_names::look_up(argument(input, places, count, 0));
     if command_names::count_right(row, count - 1) {
         if command_names::with_options(row, count - 1) {
             return Executed::Refused(Refusal::Says(Fixed::SetOptions));
         }
-        return named(command_names::name_at(row), input, places, count);
+        let name = row.name;
+        return named(name, input, places, count);
     }
     Executed::Refused(Refusal::Arity)
 }

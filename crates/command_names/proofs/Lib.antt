@@ -1,3 +1,3 @@
 -- The laws of this crate.
 pub mod Lookup
-pub mod Table
+pub mod RowLaws

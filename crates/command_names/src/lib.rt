@@ -1,276 +1,233 @@
-// The table of commands (`specs/Names.antt` of `command_spec`): a constant for each column, its last entry for an unknown name. The column of names is cut
-// in two: operations first, then the others.
+// The table of commands (`specs/Names.antt` of `command_spec`), and what a row says of a command.
 use command_spec::Name;
 use command_spec::Operation;
 ghost use mathlib.Core.Path.{_≡_};
-ghost use mathlib.Core.Bool.{true};
-ghost use Prim.Native.Nat.{_<_};
+ghost use Prim.Native.Nat.{_≤_};
+ghost use lib.ListN.{length, take};
 ghost use Rattle.command_spec.specs.Names.{sameName, countRight, withOptions, operationOf, mayQueue, notAbove, controlOf};
-ghost use Rattle.command_spec.specs.declared.Name.the-variants.{Queueable};
-ghost use Rattle.command_names.specs.Rows.{rowAt, Looked, controlSaid};
+ghost use Rattle.command_names.specs.Rows.{mostMeant, rowMeant, TableRight, Looked, controlSaid};
 
-// The place of the row behind the last: a name that is no command.
-pub const UNKNOWN: usize = 21;
+// The most arguments behind a name.
+pub enum Most {
+    Any,
+    Count(usize),
+}
 
-// Bytes kept for each name.
-const WIDTH: usize = 8;
+// A command. The counts are those of the arguments behind its name.
+pub struct Row {
+    // In capitals, filled up with zeros.
+    pub text: [u8; 8],
+    pub length: usize,
+    pub name: Name,
+    pub least: usize,
+    pub most: Most,
+    // Only even counts are right.
+    pub pairs: bool,
+    pub queueable: bool,
+}
 
-// Each name in capitals, filled up with zeros.
-const TEXTS: [u8; 176] = *b"GET\0\0\0\0\0\
-    SET\0\0\0\0\0\
-    DEL\0\0\0\0\0\
-    EXISTS\0\0\
-    MGET\0\0\0\0\
-    MSET\0\0\0\0\
-    INCR\0\0\0\0\
-    INCRBY\0\0\
-    DECR\0\0\0\0\
-    PING\0\0\0\0\
-    ECHO\0\0\0\0\
-    DBSIZE\0\0\
-    KEYS\0\0\0\0\
-    SCAN\0\0\0\0\
-    RANGE\0\0\0\
-    MULTI\0\0\0\
-    EXEC\0\0\0\0\
-    DISCARD\0\
-    WATCH\0\0\0\
-    UNWATCH\0\
-    QUIT\0\0\0\0\
-    \0\0\0\0\0\0\0\0";
+// The place of the last row, which stands for every name that is no command.
+const UNKNOWN: usize = 21;
 
-const LENGTHS: [usize; 22] = [
-    3,
-    3,
-    3,
-    6,
-    4,
-    4,
-    4,
-    6,
-    4,
-    4,
-    4,
-    6,
-    4,
-    4,
-    5,
-    5,
-    4,
-    7,
-    5,
-    7,
-    4,
-    0,
-];
-
-// How many names may be queued; they stand first.
-const OPERATION_COUNT: usize = 11;
-
-const OPERATIONS: [Operation; 11] = [
-    Operation::Get,
-    Operation::Set,
-    Operation::Del,
-    Operation::Exists,
-    Operation::Mget,
-    Operation::Mset,
-    Operation::Incr,
-    Operation::Incrby,
-    Operation::Decr,
-    Operation::Ping,
-    Operation::Echo,
-];
-
-// The names behind them.
-const NAMES: [Name; 11] = [
-    Name::Dbsize,
-    Name::Keys,
-    Name::Scan,
-    Name::Range,
-    Name::Multi,
-    Name::Exec,
-    Name::Discard,
-    Name::Watch,
-    Name::Unwatch,
-    Name::Quit,
-    Name::Unknown,
-];
-
-// Argument counts: the least, whether there is a most, and the most; whether only even counts are right.
-const LEAST: [usize; 22] = [
-    1,
-    2,
-    1,
-    1,
-    1,
-    2,
-    1,
-    2,
-    1,
-    0,
-    1,
-    0,
-    1,
-    1,
-    2,
-    0,
-    0,
-    0,
-    1,
-    0,
-    0,
-    0,
-];
-
-const BOUNDED: [bool; 22] = [
-    true,
-    false,
-    false,
-    false,
-    false,
-    false,
-    true,
-    true,
-    true,
-    true,
-    true,
-    true,
-    true,
-    false,
-    false,
-    false,
-    false,
-    false,
-    false,
-    false,
-    false,
-    false,
-];
-
-const MOST: [usize; 22] = [
-    1,
-    0,
-    0,
-    0,
-    0,
-    0,
-    1,
-    2,
-    1,
-    1,
-    1,
-    0,
-    1,
-    0,
-    0,
-    0,
-    0,
-    0,
-    0,
-    0,
-    0,
-    0,
-];
-
-const PAIRS: [bool; 22] = [
-    false,
-    false,
-    false,
-    false,
-    false,
-    true,
-    false,
-    false,
-    false,
-    false,
-    false,
-    false,
-    false,
-    false,
-    false,
-    false,
-    false,
-    false,
-    false,
-    false,
-    false,
-    false,
-];
-
-const QUEUEABLE: [bool; 22] = [
-    true,
-    true,
-    true,
-    true,
-    true,
-    true,
-    true,
-    true,
-    true,
-    true,
-    true,
-    false,
-    false,
-    false,
-    false,
-    false,
-    false,
-    false,
-    false,
-    false,
-    false,
-    false,
-];
-
-// The names whose further arguments are refused as options.
-const OPTIONS: [bool; 22] = [
-    false,
-    true,
-    false,
-    false,
-    false,
-    false,
-    false,
-    false,
-    false,
-    false,
-    false,
-    false,
-    false,
-    false,
-    false,
-    false,
-    false,
-    false,
-    false,
-    false,
-    false,
-    false,
-];
-
-const CONTROLS: [Control; 22] = [
-    Control::Other,
-    Control::Other,
-    Control::Other,
-    Control::Other,
-    Control::Other,
-    Control::Other,
-    Control::Other,
-    Control::Other,
-    Control::Other,
-    Control::Other,
-    Control::Other,
-    Control::Other,
-    Control::Other,
-    Control::Other,
-    Control::Other,
-    Control::Multi,
-    Control::Exec,
-    Control::Discard,
-    Control::Watch,
-    Control::Unwatch,
-    Control::Quit,
-    Control::Other,
+const ROWS: [Row; 22] = [
+    Row {
+        text: *b"GET\0\0\0\0\0",
+        length: 3,
+        name: Name::Queueable(Operation::Get),
+        least: 1,
+        most: Most::Count(1),
+        pairs: false,
+        queueable: true,
+    },
+    Row {
+        text: *b"SET\0\0\0\0\0",
+        length: 3,
+        name: Name::Queueable(Operation::Set),
+        least: 2,
+        most: Most::Any,
+        pairs: false,
+        queueable: true,
+    },
+    Row {
+        text: *b"DEL\0\0\0\0\0",
+        length: 3,
+        name: Name::Queueable(Operation::Del),
+        least: 1,
+        most: Most::Any,
+        pairs: false,
+        queueable: true,
+    },
+    Row {
+        text: *b"EXISTS\0\0",
+        length: 6,
+        name: Name::Queueable(Operation::Exists),
+        least: 1,
+        most: Most::Any,
+        pairs: false,
+        queueable: true,
+    },
+    Row {
+        text: *b"MGET\0\0\0\0",
+        length: 4,
+        name: Name::Queueable(Operation::Mget),
+        least: 1,
+        most: Most::Any,
+        pairs: false,
+        queueable: true,
+    },
+    Row {
+        text: *b"MSET\0\0\0\0",
+        length: 4,
+        name: Name::Queueable(Operation::Mset),
+        least: 2,
+        most: Most::Any,
+        pairs: true,
+        queueable: true,
+    },
+    Row {
+        text: *b"INCR\0\0\0\0",
+        length: 4,
+        name: Name::Queueable(Operation::Incr),
+        least: 1,
+        most: Most::Count(1),
+        pairs: false,
+        queueable: true,
+    },
+    Row {
+        text: *b"INCRBY\0\0",
+        length: 6,
+        name: Name::Queueable(Operation::Incrby),
+        least: 2,
+        most: Most::Count(2),
+        pairs: false,
+        queueable: true,
+    },
+    Row {
+        text: *b"DECR\0\0\0\0",
+        length: 4,
+        name: Name::Queueable(Operation::Decr),
+        least: 1,
+        most: Most::Count(1),
+        pairs: false,
+        queueable: true,
+    },
+    Row {
+        text: *b"PING\0\0\0\0",
+        length: 4,
+        name: Name::Queueable(Operation::Ping),
+        least: 0,
+        most: Most::Count(1),
+        pairs: false,
+        queueable: true,
+    },
+    Row {
+        text: *b"ECHO\0\0\0\0",
+        length: 4,
+        name: Name::Queueable(Operation::Echo),
+        least: 1,
+        most: Most::Count(1),
+        pairs: false,
+        queueable: true,
+    },
+    Row {
+        text: *b"DBSIZE\0\0",
+        length: 6,
+        name: Name::Dbsize,
+        least: 0,
+        most: Most::Count(0),
+        pairs: false,
+        queueable: false,
+    },
+    Row {
+        text: *b"KEYS\0\0\0\0",
+        length: 4,
+        name: Name::Keys,
+        least: 1,
+        most: Most::Count(1),
+        pairs: false,
+        queueable: false,
+    },
+    Row {
+        text: *b"SCAN\0\0\0\0",
+        length: 4,
+        name: Name::Scan,
+        least: 1,
+        most: Most::Any,
+        pairs: false,
+        queueable: false,
+    },
+    Row {
+        text: *b"RANGE\0\0\0",
+        length: 5,
+        name: Name::Range,
+        least: 2,
+        most: Most::Any,
+        pairs: false,
+        queueable: false,
+    },
+    Row {
+        text: *b"MULTI\0\0\0",
+        length: 5,
+        name: Name::Multi,
+        least: 0,
+        most: Most::Any,
+        pairs: false,
+        queueable: false,
+    },
+    Row {
+        text: *b"EXEC\0\0\0\0",
+        length: 4,
+        name: Name::Exec,
+        least: 0,
+        most: Most::Any,
+        pairs: false,
+        queueable: false,
+    },
+    Row {
+        text: *b"DISCARD\0",
+        length: 7,
+        name: Name::Discard,
+        least: 0,
+        most: Most::Any,
+        pairs: false,
+        queueable: false,
+    },
+    Row {
+        text: *b"WATCH\0\0\0",
+        length: 5,
+        name: Name::Watch,
+        least: 1,
+        most: Most::Any,
+        pairs: false,
+        queueable: false,
+    },
+    Row {
+        text: *b"UNWATCH\0",
+        length: 7,
+        name: Name::Unwatch,
+        least: 0,
+        most: Most::Any,
+        pairs: false,
+        queueable: false,
+    },
+    Row {
+        text: *b"QUIT\0\0\0\0",
+        length: 4,
+        name: Name::Quit,
+        least: 0,
+        most: Most::Any,
+        pairs: false,
+        queueable: false,
+    },
+    Row {
+        text: *b"\0\0\0\0\0\0\0\0",
+        length: 0,
+        name: Name::Unknown,
+        least: 0,
+        most: Most::Any,
+        pairs: false,
+        queueable: false,
+    },
 ];
 
 // The names that steer a session, and all others.
@@ -284,53 +241,26 @@ pub enum Control {
     Other,
 }
 
-// The operation of a name that may be queued.
-pub fn operation_at(row: usize) -> Operation
-    requires { ⌜ row < 22 ⌝ }
-    requires { ⌜ rowAt row .queueable ≡ true ⌝ }
-    ensures { λ r. ⌜ rowAt row .name ≡ Queueable r ⌝ }
+// Is `count` not above the most?
+fn not_above(most: Most, count: usize) -> bool
+    ensures { λ r. ⌜ r ≡ notAbove count (mostMeant most) ⌝ }
 {
-    OPERATIONS[row]
-}
-
-pub fn name_at(row: usize) -> Name
-    requires { ⌜ row < 22 ⌝ }
-    ensures { λ r. ⌜ r ≡ rowAt row .name ⌝ }
-{
-    if row < OPERATION_COUNT {
-        return Name::Queueable(OPERATIONS[row]);
+    match most {
+        Most::Any => true,
+        Most::Count(n) => count <= n,
     }
-    NAMES[row - OPERATION_COUNT]
-}
-
-pub fn queueable(row: usize) -> bool
-    requires { ⌜ row < 22 ⌝ }
-    ensures { λ r. ⌜ r ≡ rowAt row .queueable ⌝ }
-{
-    QUEUEABLE[row]
-}
-
-// Is `count` not above the most arguments of a row?
-fn not_above(row: usize, count: usize) -> bool
-    requires { ⌜ row < 22 ⌝ }
-    ensures { λ r. ⌜ r ≡ notAbove count (rowAt row .most) ⌝ }
-{
-    if BOUNDED[row] {
-        return count <= MOST[row];
-    }
-    true
 }
 
 // Is `count` a right number of arguments, the name not counted?
-pub fn count_right(row: usize, count: usize) -> bool
-    requires { ⌜ row < 22 ⌝ }
-    ensures { λ r. ⌜ r ≡ countRight (rowAt row) count ⌝ }
+pub fn count_right(row: Row, count: usize) -> bool
+    ensures { λ r. ⌜ r ≡ countRight (rowMeant row) count ⌝ }
 {
-    if count < LEAST[row] {
+    if count < row.least {
         return false;
     }
-    if not_above(row, count) {
-        if PAIRS[row] {
+    let most = row.most;
+    if not_above(most, count) {
+        if row.pairs {
             return count % 2 == 0;
         }
         return true;
@@ -338,29 +268,85 @@ pub fn count_right(row: usize, count: usize) -> bool
     false
 }
 
-// Is this SET with options, by its `count` of arguments, the name not counted?
-pub fn with_options(row: usize, count: usize) -> bool
-    requires { ⌜ row < 22 ⌝ }
-    ensures { λ r. ⌜ r ≡ withOptions (operationOf (rowAt row .name)) count ⌝ }
+// The operation of a name that may be queued, and PING for any other.
+pub fn operation_of(name: Name) -> Operation
+    ensures { λ r. ⌜ r ≡ operationOf name ⌝ }
 {
-    if OPTIONS[row] {
-        return 2 < count;
+    match name {
+        Name::Queueable(operation) => operation,
+        Name::Dbsize => Operation::Ping,
+        Name::Keys => Operation::Ping,
+        Name::Scan => Operation::Ping,
+        Name::Range => Operation::Ping,
+        Name::Multi => Operation::Ping,
+        Name::Exec => Operation::Ping,
+        Name::Discard => Operation::Ping,
+        Name::Watch => Operation::Ping,
+        Name::Unwatch => Operation::Ping,
+        Name::Quit => Operation::Ping,
+        Name::Unknown => Operation::Ping,
     }
-    false
+}
+
+// Is this SET with options, by its `count` of arguments, the name not counted?
+fn set_with_options(operation: Operation, count: usize) -> bool
+    ensures { λ r. ⌜ r ≡ withOptions operation count ⌝ }
+{
+    match operation {
+        Operation::Get => false,
+        Operation::Set => 2 < count,
+        Operation::Del => false,
+        Operation::Exists => false,
+        Operation::Mget => false,
+        Operation::Mset => false,
+        Operation::Incr => false,
+        Operation::Incrby => false,
+        Operation::Decr => false,
+        Operation::Ping => false,
+        Operation::Echo => false,
+    }
+}
+
+// The same, by its row.
+pub fn with_options(row: Row, count: usize) -> bool
+    ensures { λ r. ⌜ r ≡ withOptions (operationOf (row .name)) count ⌝ }
+{
+    let name = row.name;
+    set_with_options(operation_of(name), count)
 }
 
 // May a command with `count` arguments, the name not counted, be queued as it was sent?
-pub fn may_queue(row: usize, count: usize) -> bool
-    requires { ⌜ row < 22 ⌝ }
-    ensures { λ r. ⌜ r ≡ mayQueue (rowAt row) count ⌝ }
+pub fn may_queue(row: Row, count: usize) -> bool
+    ensures { λ r. ⌜ r ≡ mayQueue (rowMeant row) count ⌝ }
 {
-    if queueable(row) {
+    if row.queueable {
         if count_right(row, count) {
             return !with_options(row, count);
         }
         return false;
     }
     false
+}
+
+// What the command of a row does to a session.
+pub fn control_of(row: Row) -> Control
+    ensures { λ r. ⌜ controlSaid r ≡ controlOf (row .name) ⌝ }
+{
+    let name = row.name;
+    match name {
+        Name::Multi => Control::Multi,
+        Name::Exec => Control::Exec,
+        Name::Discard => Control::Discard,
+        Name::Watch => Control::Watch,
+        Name::Unwatch => Control::Unwatch,
+        Name::Quit => Control::Quit,
+        Name::Queueable(_) => Control::Other,
+        Name::Dbsize => Control::Other,
+        Name::Keys => Control::Other,
+        Name::Scan => Control::Other,
+        Name::Range => Control::Other,
+        Name::Unknown => Control::Other,
+    }
 }
 
 // Is `word` the name `text`, which is in capitals, in any letter case?
@@ -380,29 +366,36 @@ pub fn same(word: &[u8], text: &[u8]) -> bool
     true
 }
 
-// The row of the command that a word names, or UNKNOWN.
-pub fn look_up(word: &[u8]) -> usize
-    ensures { λ r. ⌜ Looked (now (word .entry)) r ⌝ }
+// Is `word` the name of this row?
+fn is_named(row: Row, word: &[u8]) -> bool
+    requires { ⌜ row .length ≤ length (row .text) ⌝ }
+    ensures { λ r. ⌜ r ≡ sameName (now (word .entry)) (take (row .length) (row .text)) ⌝ }
 {
-    // Locals, since a constant that a loop reads is made anew at each turn.
-    let texts = TEXTS;
-    let lengths = LENGTHS;
-    let mut row = 0;
-    while row < UNKNOWN {
-        let start = row * WIDTH;
-        let end = start + lengths[row];
-        if same(word, &texts[start..end]) {
-            return row;
-        }
-        row += 1;
-    }
-    UNKNOWN
+    let text = row.text;
+    let length = row.length;
+    same(word, &text[0..length])
 }
 
-// What the command of a row does to a session.
-pub fn control_at(row: usize) -> Control
-    requires { ⌜ row < 22 ⌝ }
-    ensures { λ r. ⌜ controlSaid r ≡ controlOf (rowAt row .name) ⌝ }
+// The table.
+fn table() -> [Row; 22]
+    ensures { λ r. ⌜ TableRight r ⌝ }
 {
-    CONTROLS[row]
+    ROWS
+}
+
+// The row of the command that a word names.
+pub fn look_up(word: &[u8]) -> Row
+    ensures { λ r. ⌜ Looked (now (word .entry)) r ⌝ }
+{
+    // A local, since a constant that a loop reads is made anew at each turn.
+    let rows = table();
+    let mut k = 0;
+    while k < UNKNOWN {
+        let row = rows[k];
+        if is_named(row, word) {
+            return row;
+        }
+        k += 1;
+    }
+    rows[UNKNOWN]
 }

@@ -146,6 +146,10 @@ named-in (r ∷ rs) word (cons n ns) = go (sameName word (r .text)) (named-in rs
     go true again = n
     go false again = again
 
+pub queueable-named : (word : Bytes) → rowOf word .queueable ≡ true → rowOf word .name ≡ Queueable (operationOf (rowOf word .name))
+unfolding rowOf
+queueable-named word = named-in rows word all-named
+
 pub queued-read : (a : Args) → requestQueueable a ≡ true → executedOf a ≡ runs (commandOf a)
 unfolding requestQueueable mayQueue rowOf executedOf executedAs commandOf
 queued-read a h = go (rowIn rows (nameWord a)) (named-in rows (nameWord a) all-named) h

@@ -13,7 +13,8 @@ use Rattle.resp_spec.specs.Request.{Reading, waits, faulty, tooMany, whole, rea
 use Rattle.resp_spec.specs.Steps.{spanWords, argumentWords}
 use Rattle.command_names.specs.declared.Control.{Control as Said}
 use Rattle.command_spec.specs.Names.{rowOf, Row, Control, MULTI, EXEC, DISCARD, WATCH, UNWATCH, QUIT, other, controlOf}
-use Rattle.command_names.specs.Rows.{rowAt, Looked, controlSaid}
+use Rattle.command_names.specs.declared.Row.{Row as CodeRow}
+use Rattle.command_names.specs.Rows.{Looked, controlSaid}
 use Rattle.command_spec.specs.declared.Answer.{Answer}
 use Rattle.command_spec.specs.Session.{Session, clear, says, respond}
 use Rattle.store_memtable.specs.Versions.{Store}
@@ -24,7 +25,7 @@ use Rattle.call_spec.proofs.LentLaws.{request-served}
 use Rattle.frames_lines.specs.Quit.{isQuit, quitsSaid, quits, firstSpan, Drops, Told}
 use Rattle.frames_lines.proofs.UsedLaws.{finish-full}
 
-pub quits-is : (word : Bytes) {row : ℕ} (r : Said) {b : Bool} → Looked word row → controlSaid r ≡ controlOf (rowAt row .name) → b ≡ quitsSaid r → b ≡ quits word
+pub quits-is : (word : Bytes) {row : CodeRow} (r : Said) {b : Bool} → Looked word row → controlSaid r ≡ controlOf (row .name) → b ≡ quitsSaid r → b ≡ quits word
 unfolding quits
 quits-is word r looked said e = e ∙ ap isQuit said ∙ ap (λ (x : Row). isQuit (controlOf (x .name))) (looked .is)
 

@@ -26,7 +26,7 @@ fn names_quit(word: &[u8]) -> bool
     ensures { λ r. ⌜ r ≡ quits (now (word .entry)) ⌝ }
 {
     let row = command_names::look_up(word);
-    is_quit(command_names::control_at(row))
+    is_quit(command_names::control_of(row))
 }
 
 // Whether the first argument, whose place stands in front of `places`, is QUIT.

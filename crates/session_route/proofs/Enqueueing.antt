@@ -13,7 +13,8 @@ use Rattle.store_memtable.specs.Versions.{Store}
 use Rattle.command_spec.specs.declared.Answer.{Answer}
 use Rattle.command_spec.specs.declared.Fixed.the-variants.{Queued, SetOptions}
 use Rattle.command_spec.specs.Names.{Args, rowOf, arguments, countRight, withOptions, operationOf, arity}
-use Rattle.command_names.specs.Rows.{rowAt, Looked}
+use Rattle.command_names.specs.declared.Row.{Row as CodeRow}
+use Rattle.command_names.specs.Rows.{rowMeant, Looked}
 use Rattle.command_spec.specs.Command.{setOptions}
 use Rattle.command_spec.specs.Session.{Session, Done, says, returns, queueFits, queuedReply, marked, enqueue, queueUp}
 use Rattle.command_spec.specs.Sessions.{queueIn, sessionFrom, queueOf}
@@ -70,7 +71,7 @@ module _ {w : List ℕ} {b : Bytes} {p : List ℕ} {s : Bytes} {count : ℕ} (h 
         (answered-number h (queueing args) used z 4 (marked (sessionFrom w b)) (refused e) (l .is b h) (sym (bytes-marked h)))
 
 -- THE ARGUMENT COUNT, AND OPTIONS
-module _ {word : Bytes} {row : ℕ} (l : Looked word row) (count : ℕ) (places : List ℕ) (input : Bytes) (named : 1 ≤ count) {right : Bool} (e : right ≡ countRight (rowAt row) (count - 1)) where
+module _ {word : Bytes} {row : CodeRow} (l : Looked word row) (count : ℕ) (places : List ℕ) (input : Bytes) (named : 1 ≤ count) {right : Bool} (e : right ≡ countRight (rowMeant row) (count - 1)) where
   abbrev asked : Args
   asked = argumentsAt 0 count places input
 
@@ -97,7 +98,7 @@ module _ {word : Bytes} {row : ℕ} (l : Looked word row) (count : ℕ) (places 
           as-by st s ∙ ap (λ (v : Bool). by v (withOptions (operationOf (rowOf word .name)) (length (arguments asked))) st s) (right-as f)
           ∙ ap (λ (x : Reply). says x st (marked s)) (arity-as-sent word (length (arguments asked)) (right-as f))
 
-  module _ {options : Bool} (g : options ≡ withOptions (operationOf (rowAt row .name)) (count - 1)) where
+  module _ {options : Bool} (g : options ≡ withOptions (operationOf (row .name)) (count - 1)) where
     options-as : {v : Bool} → options ≡ v → withOptions (operationOf (rowOf word .name)) (length (arguments asked)) ≡ v
     options-as f = sym (sym f ∙ g ∙ (λ i. withOptions (operationOf (l .is i .name)) (behind i)))
 

@@ -12,7 +12,8 @@ use Rattle.store_memtable.specs.Versions.{Store}
 use Rattle.store_memtable.proofs.VersionLaws.{Sound}
 use Rattle.command_spec.specs.declared.Answer.{Answer}
 use Rattle.command_spec.specs.Names.{Args, Row, rowOf, nameWord, controlOf}
-use Rattle.command_names.specs.Rows.{rowAt, Looked}
+use Rattle.command_names.specs.declared.Row.{Row as CodeRow}
+use Rattle.command_names.specs.Rows.{Looked}
 use Rattle.command_spec.specs.Command.{executedOf}
 use Rattle.command_spec.specs.Session.{Session, Result, number, reply, Done, respond, direct, execute, marked, notQueueable}
 use Rattle.command_spec.specs.Sessions.{yes?, queueIn, sessionFrom, sessionOk, sessionWords, sessionBytes}
@@ -68,8 +69,8 @@ module _ {way : Way} {last : ℕ} {w w′ : List ℕ} {b b′ : Bytes} {used : �
       by-keys st s l = unfold wayDone in (λ z. watchDone row (arguments-of places input count k z) (l z) st s)
 
 -- THE ANSWER OF `respond`, by the route
-pub here-answers : (w : List ℕ) (b : Bytes) (a : Args) (row : ℕ) (way : Way) {route : Route} → Looked (nameWord a) row
-    → route ≡ routeBy (yes? (getD w 0 0)) (controlOf (rowAt row .name)) (rowAt row .queueable) → route ≡ Here way
+pub here-answers : (w : List ℕ) (b : Bytes) (a : Args) (row : CodeRow) (way : Way) {route : Route} → Looked (nameWord a) row
+    → route ≡ routeBy (yes? (getD w 0 0)) (controlOf (row .name)) (row .queueable) → route ≡ Here way
     → {last : ℕ} {w′ : List ℕ} {b′ : Bytes} {used : ℕ} {out out′ : Bytes} {r : Answer} → AnsweredWith last (wayDone way (rowOf (nameWord a)) a) w w′ b b′ used out r out′
     → (st : Store) → st .last ≡ last → AnsweredAt st (respond a st (sessionFrom w b)) w w′ b b′ used out r out′
 here-answers w b a row way {route} l e f {last} {w′} {b′} {used} {out} {out′} {r} x st k =
@@ -82,8 +83,8 @@ here-answers w b a row way {route} l e f {last} {w′} {b′} {used} {out} {out�
     }
 
 -- the two routes that need the store
-module _ (w : List ℕ) (b : Bytes) (a : Args) {row : ℕ} {route : Route} (l : Looked (nameWord a) row)
-    (e : route ≡ routeBy (yes? (getD w 0 0)) (controlOf (rowAt row .name)) (rowAt row .queueable)) (st : Store) where
+module _ (w : List ℕ) (b : Bytes) (a : Args) {row : CodeRow} {route : Route} (l : Looked (nameWord a) row)
+    (e : route ≡ routeBy (yes? (getD w 0 0)) (controlOf (row .name)) (row .queueable)) (st : Store) where
   pub exec-request : Held w b → route ≡ Exec → respond a st (sessionFrom w b) ≡ execute (queueIn w b) st (sessionFrom w b)
   exec-request h f =
       request-routed w b a l e st ∙ ap (λ (y : Route). routeDone y (rowOf (nameWord a)) a st (sessionFrom w b)) f

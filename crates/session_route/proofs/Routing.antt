@@ -13,7 +13,8 @@ use Rattle.command_spec.specs.declared.Fixed.{Fixed}
 use Rattle.command_spec.specs.declared.Fixed.the-variants.{Ok}
 use Rattle.command_names.specs.declared.Control.{Control as Said}
 use Rattle.command_spec.specs.Names.{Args, Row, rowOf, nameWord, controlOf, Control, MULTI, EXEC, DISCARD, WATCH, UNWATCH, QUIT, other}
-use Rattle.command_names.specs.Rows.{rowAt, Looked, controlSaid}
+use Rattle.command_names.specs.declared.Row.{Row as CodeRow}
+use Rattle.command_names.specs.Rows.{Looked, controlSaid}
 use Rattle.command_spec.specs.Session.{Session, says, watching, queueUp, notQueueable, outsideMulti, insideMulti, respondBy, respond, marked}
 use Rattle.command_spec.specs.Sessions.{yes?, queueIn, sessionFrom, multiOf}
 use Rattle.command_spec.specs.Errors.{fixedReply}
@@ -87,8 +88,8 @@ flag-read w b = go (getD w 0 0)
     go (suc n) = refl
 
 -- the request that its route gives
-pub request-routed : (w : List ℕ) (b : Bytes) (a : Args) {row : ℕ} {route : Route} → Looked (nameWord a) row
-    → route ≡ routeBy (yes? (getD w 0 0)) (controlOf (rowAt row .name)) (rowAt row .queueable)
+pub request-routed : (w : List ℕ) (b : Bytes) (a : Args) {row : CodeRow} {route : Route} → Looked (nameWord a) row
+    → route ≡ routeBy (yes? (getD w 0 0)) (controlOf (row .name)) (row .queueable)
     → (st : Store) → respond a st (sessionFrom w b) ≡ routeDone route (rowOf (nameWord a)) a st (sessionFrom w b)
 unfolding respond
 request-routed w b a {row} {route} l e st =

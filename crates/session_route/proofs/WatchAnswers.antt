@@ -19,7 +19,8 @@ use Rattle.command_spec.specs.declared.Fixed.the-variants.{Ok}
 use Rattle.command_spec.specs.declared.watched.Grown.{Grown}
 use Rattle.command_spec.specs.declared.watched.Grown.the-variants as grown
 use Rattle.command_spec.specs.Names.{rowOf, countRight, arity}
-use Rattle.command_names.specs.Rows.{rowAt, Looked}
+use Rattle.command_names.specs.declared.Row.{Row as CodeRow}
+use Rattle.command_names.specs.Rows.{rowMeant, Looked}
 use Rattle.command_spec.specs.Session.{Watching, watchedKeys, Session, says, returns, addKeys, watchFits}
 use Rattle.command_spec.specs.Sessions.{sessionFrom}
 use Rattle.command_spec.specs.Errors.{fixedReply, arityOf}
@@ -84,7 +85,7 @@ module _ {w : List ℕ} {b : Bytes} (h : Held w b) (ks : List Key) (last : ℕ) 
   watch-kept {n} {u} e k = k .is ks last u (grown-holding (addKeys last ks (sessionFrom w b .watch)) (part 4 32 w) lens (part 36 32 w) seqs (part 0 2048 b) text g e)
 
 -- THE ARGUMENT COUNT
-module _ {word : Bytes} {row : ℕ} (l : Looked word row) (count : ℕ) (places : List ℕ) (input : Bytes) {right : Bool} (e : right ≡ countRight (rowAt row) (count - 1)) where
+module _ {word : Bytes} {row : CodeRow} (l : Looked word row) (count : ℕ) (places : List ℕ) (input : Bytes) {right : Bool} (e : right ≡ countRight (rowMeant row) (count - 1)) where
   abbrev ks : List Key
   ks = argumentsAt 1 (count - 1) places input
 

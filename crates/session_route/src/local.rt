@@ -3,6 +3,7 @@ use crate::queueing;
 use crate::routes::Way;
 use crate::steer;
 use crate::watching;
+use command_names::Row;
 use command_spec::Answer;
 ghost use mathlib.Core.Path.{_≡_};
 ghost use Prim.Native.Nat.{_≤_};
@@ -24,7 +25,7 @@ pub fn answer(
     places: &[u64],
     count: usize,
     word: &[u8],
-    row: usize,
+    row: Row,
     last: u64,
     out: &mut [u8],
     used: usize,

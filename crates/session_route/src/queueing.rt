@@ -1,6 +1,7 @@
 // One of the eleven names inside MULTI.
 use crate::steer;
 use base_writing::Put;
+use command_names::Row;
 use command_spec::Answer;
 use command_spec::Fixed;
 ghost use mathlib.Core.Path.{_≡_};
@@ -54,7 +55,7 @@ pub fn queue_up(
     places: &[u64],
     count: usize,
     word: &[u8],
-    row: usize,
+    row: Row,
     out: &mut [u8],
     used: usize,
 ) -> Answer

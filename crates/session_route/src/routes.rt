@@ -1,11 +1,11 @@
 // Which of the ways to answer a request has, by the session and the row of its name.
 use command_names::Control;
+use command_names::Row;
 use command_spec::Fixed;
 ghost use mathlib.Core.Path.{_≡_};
-ghost use Prim.Native.Nat.{_<_};
 ghost use lib.ListN.{length, getD};
 ghost use Rattle.command_spec.specs.Names.{controlOf};
-ghost use Rattle.command_names.specs.Rows.{rowAt, controlSaid};
+ghost use Rattle.command_names.specs.Rows.{controlSaid};
 ghost use Rattle.command_spec.specs.Sessions.{yes?};
 ghost use Rattle.session_route.specs.Routes.{outsideRoute, insideRoute, routeBy};
 
@@ -66,13 +66,13 @@ fn inside(control: Control, queueable: bool) -> Route
 }
 
 // The route of a request, by the session's words and the row of its name.
-pub fn route_of(words: &[u64], row: usize) -> Route
-    requires { ⌜ (length (now words) ≡ 644) × (row < 22) ⌝ }
-    ensures { λ r. ⌜ r ≡ routeBy (yes? (getD (now (words .entry)) 0 0)) (controlOf (rowAt row .name)) (rowAt row .queueable) ⌝ }
+pub fn route_of(words: &[u64], row: Row) -> Route
+    requires { ⌜ length (now words) ≡ 644 ⌝ }
+    ensures { λ r. ⌜ r ≡ routeBy (yes? (getD (now (words .entry)) 0 0)) (controlOf (row .name)) (row .queueable) ⌝ }
 {
-    let control = command_names::control_at(row);
+    let control = command_names::control_of(row);
     if session_flags::in_multi(words) {
-        return inside(control, command_names::queueable(row));
+        return inside(control, row.queueable);
     }
     outside(control)
 }

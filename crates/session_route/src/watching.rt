@@ -1,6 +1,7 @@
 // WATCH outside MULTI.
 use crate::answers;
 use base_writing::Put;
+use command_names::Row;
 use command_spec::Answer;
 use command_spec::Fixed;
 use command_spec::watched::Grown;
@@ -92,7 +93,7 @@ pub fn watch_keys(
     places: &[u64],
     count: usize,
     word: &[u8],
-    row: usize,
+    row: Row,
     last: u64,
     out: &mut [u8],
     used: usize,

@@ -13,7 +13,8 @@ use Rattle.base_key.specs.Bytes.{Bytes, _and_, part, total}
 use Rattle.base_key.proofs.Bytes.{length-part}
 use Rattle.base_key.specs.Keys.{keyBelow}
 use Rattle.command_spec.specs.Names.{Row, rowOf, nameWord, arguments, mayQueue, requestQueueable}
-use Rattle.command_names.specs.Rows.{rowAt, Looked}
+use Rattle.command_names.specs.declared.Row.{Row as CodeRow}
+use Rattle.command_names.specs.Rows.{rowMeant, Looked}
 use Rattle.command_spec.specs.Sessions.{splitBy, ascending, ascendingAfter, allPositive, allQueueable, yes?, noneAbove}
 use Rattle.command_spec.specs.Lent.{capped, KeysIn, QueueIn}
 use Rattle.command_spec.proofs.LayoutLaws.{flag-nonzero}
@@ -147,8 +148,8 @@ module _ {w : List ℕ} {b : Bytes} {count : ℕ} (k : KeysIn w b count) where
     risen h = sym (r .is ∙ ap (λ (l : List ℕ). ascendingAfter (part start (end - start) b) (splitBy l (drop end (part 0 2048 b)))) (part-none w 4 count i h))
 
 -- THE COMMANDS. One command, by the row of its name
-pub name-found : (w : List ℕ) (b : Bytes) (first start size : ℕ) {n r : ℕ} {v : Bool} → n ≡ getD w (132 + first) 0 → Looked (part (2048 + start) (2048 + start + n - (2048 + start)) b) r
-    → v ≡ mayQueue (rowAt r) (size - 1) → v ≡ mayQueue (rowOf (part (2048 + start) (getD w (132 + first) 0) b)) (size - 1)
+pub name-found : (w : List ℕ) (b : Bytes) (first start size : ℕ) {n : ℕ} {r : CodeRow} {v : Bool} → n ≡ getD w (132 + first) 0 → Looked (part (2048 + start) (2048 + start + n - (2048 + start)) b) r
+    → v ≡ mayQueue (rowMeant r) (size - 1) → v ≡ mayQueue (rowOf (part (2048 + start) (getD w (132 + first) 0) b)) (size - 1)
 name-found w b first start size {n} {r} e l q =
     let m : 2048 + start + n - (2048 + start) ≡ getD w (132 + first) 0 = omega arith in
     q ∙ ap (λ (x : Row). mayQueue x (size - 1)) (l .is) ∙ ap (λ (k : ℕ). mayQueue (rowOf (part (2048 + start) k b)) (size - 1)) m

@@ -1,15 +1,9 @@
--- `command_meaning::executed_of` meets its contract. The row that the look-up finds is that of the name. Assumes nothing.
+-- `command_meaning::executed_of` meets its contract. One law for each way out. Assumes nothing.
 use Rattle.command_spec.proofs.PlaceLaws.{arguments-count}
 use Rattle.command_meaning.proofs.NameLaws.{right-named, plain-named, right-count, with-options, wrong-count}
 use borrow.Author.Needs.{needs}
 use Rattle.command_meaning.proofs.executed_of.Statement.{statement}
 use Rattle.command_meaning.proofs.executed_of.Tie as tie
-
-argument-requires : tie.Need-argument-requires
-argument-requires c κs = search needs
-
-look-up-requires : tie.Need-look-up-requires
-look-up-requires c κs = search needs
 
 sub-count-right : tie.Need-sub-count-right
 sub-count-right c = search needs
@@ -26,9 +20,6 @@ with-options-requires c κs = search needs
 returns : tie.Need-returns
 returns c = search (with-options, arguments-count)
 
-name-at-requires : tie.Need-name-at-requires
-name-at-requires c κs = search needs
-
 named-requires : tie.Need-named-requires
 named-requires c κs = search (right-named, plain-named, needs)
 
@@ -42,14 +33,11 @@ pub executed-of-spec : {M : Type 1} → statement M
 executed-of-spec =
     tie.close
     (tie.spec
-    argument-requires
-    look-up-requires
     sub-count-right
     count-right-requires
     sub-with-options
     with-options-requires
     returns
-    name-at-requires
     named-requires
     returns-2
     returns-3)

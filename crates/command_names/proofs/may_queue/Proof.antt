@@ -4,9 +4,6 @@ use Rattle.command_names.proofs.Lookup.{never-queued, miscounted, by-op
 use Rattle.command_names.proofs.may_queue.Statement.{statement}
 use Rattle.command_names.proofs.may_queue.Tie as tie
 
-queueable-requires : tie.Need-queueable-requires
-queueable-requires c κs = search needs
-
 count-right-requires : tie.Need-count-right-requires
 count-right-requires c κs = search needs
 
@@ -23,4 +20,5 @@ returns-3 : tie.Need-returns-3
 returns-3 c = search never-queued
 
 pub may-queue-spec : {M : Type 1} → statement M
-may-queue-spec = tie.close (tie.spec queueable-requires count-right-requires with-options-requires returns returns-2 returns-3)
+may-queue-spec =
+    tie.close (tie.spec count-right-requires with-options-requires returns returns-2 returns-3)

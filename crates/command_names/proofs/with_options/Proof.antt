@@ -1,17 +1,17 @@
--- `command_names::with_options` meets its contract. The tables are the rows, `proofs/Table.antt`. Assumes nothing.
+-- `command_names::with_options` meets its contract. The operation of the row's name. Assumes nothing.
 use borrow.Author.Needs.{needs}
-use Rattle.command_names.proofs.Lookup.{options-here, no-options}
+use Rattle.command_names.proofs.Lookup.{options-by}
 use Rattle.command_names.proofs.with_options.Statement.{statement}
 use Rattle.command_names.proofs.with_options.Tie as tie
 
-array-read-if1 : tie.Need-array-read-if1
-array-read-if1 c = search needs
+operation-of-requires : tie.Need-operation-of-requires
+operation-of-requires c κs = search needs
+
+set-with-options-requires : tie.Need-set-with-options-requires
+set-with-options-requires c κs = search needs
 
 returns : tie.Need-returns
-returns c = search options-here
-
-returns-2 : tie.Need-returns-2
-returns-2 c = search no-options
+returns c = search options-by
 
 pub with-options-spec : {M : Type 1} → statement M
-with-options-spec = tie.close (tie.spec array-read-if1 returns returns-2)
+with-options-spec = tie.close (tie.spec operation-of-requires set-with-options-requires returns)

@@ -2,7 +2,7 @@
 use native.Mathlib.Omega.{arith}
 use mathlib.Core.Path.{refl}
 use Rattle.session_route.proofs.Routing.{way-asks}
-use Rattle.call_serve.proofs.RespondLaws.{ready-held, here-left, exec-left, run-left}
+use Rattle.call_serve.proofs.RespondLaws.{ready-held, name-looked, here-left, exec-left, run-left}
 use borrow.Author.Needs.{needs}
 use Rattle.call_serve.proofs.respond.respond.Statement.{statement}
 use Rattle.call_serve.proofs.respond.respond.Tie as tie
@@ -35,7 +35,7 @@ enum-told-2 : tie.Need-enum-told-2
 enum-told-2 c = search needs
 
 run-command-requires : tie.Need-run-command-requires
-run-command-requires c κs = (c .before .before .before .before .before .before .before .before .before .before .before .before .before .before .before .before .before .pre .0, (c .before .before .before .before .before .before .before .before .before .before .before .before .before .before .before .before .before .pre .1 .0, (c .before .before .before .before .before .before .before .before .before .before .before .before .before .before .before .before .before .pre .1 .1 .valid, (omega (arith, c .before .before .before .before .before .before .before .before .before .before .before .before .before .before .slice-known .given 2), c .before .before .before .before .before .before .before .before .before .before .before .before .before .before .before .before .before .pre .1 .1 .cleared))))
+run-command-requires c κs = (c .before .before .before .before .before .before .before .before .before .before .before .before .before .before .before .before .before .pre .0, (c .before .before .before .before .before .before .before .before .before .before .before .before .before .before .before .before .before .pre .1 .0, (name-looked (c .before .before .before .before .before .before .before .before .before .before .before .before .before .before .before .before .before .args .count) (c .before .before .before .before .before .before .before .before .before .before .before .before .before .before .before .before .before .args .places .now) (c .before .before .before .before .before .before .before .before .before .before .before .before .before .before .before .before .before .args .input .now) (c .before .before .before .before .before .before .before .before .before .before .before .before .before .before .before .before .before .pre .1 .0) (c .before .before .before .before .before .before .before .before .before .name .ensures) (c .before .before .before .before .before .before .before .before .look-up .ensures), (c .before .before .before .before .before .before .before .before .before .before .before .before .before .before .before .before .before .pre .1 .1 .valid, (omega (arith, c .before .before .before .before .before .before .before .before .before .before .before .before .before .before .slice-known .given 2), c .before .before .before .before .before .before .before .before .before .before .before .before .before .before .before .before .before .pre .1 .1 .cleared)))))
 
 same-length : tie.Need-same-length
 same-length c = search needs

@@ -1,6 +1,6 @@
 -- `command_meaning::kinds::kind_at` meets its contract. The row that the look-up finds is that of the name. Assumes nothing.
 use Rattle.command_spec.proofs.PlaceLaws.{arguments-count}
-use Rattle.command_meaning.proofs.KindLaws.{queueable-here, queued-count, queued-plain, queued-does}
+use Rattle.command_meaning.proofs.KindLaws.{queued-count, queued-plain, queued-does}
 use borrow.Author.Needs.{needs}
 use Rattle.command_meaning.proofs.kinds.kind_at.Statement.{statement}
 use Rattle.command_meaning.proofs.kinds.kind_at.Tie as tie
@@ -11,8 +11,8 @@ argument-requires c κs = search needs
 look-up-requires : tie.Need-look-up-requires
 look-up-requires c κs = search needs
 
-operation-at-requires : tie.Need-operation-at-requires
-operation-at-requires c κs = (search needs, queueable-here _ (arguments-count 0 _ _ _) (c .before .argument .ensures) (c .look-up .ensures) (c .before .before .before .before .pre .1 .1))
+operation-of-requires : tie.Need-operation-of-requires
+operation-of-requires c κs = search needs
 
 kind-of-requires : tie.Need-kind-of-requires
 kind-of-requires c κs = search (queued-count, queued-plain, arguments-count, needs)
@@ -23,4 +23,4 @@ returns c = search (queued-does, arguments-count)
 pub kind-at-spec : {M : Type 1} → statement M
 kind-at-spec =
     tie.close
-    (tie.spec argument-requires look-up-requires operation-at-requires kind-of-requires returns)
+    (tie.spec argument-requires look-up-requires operation-of-requires kind-of-requires returns)

@@ -7,8 +7,8 @@ use Rattle.frames_lines.proofs.quit.names_quit.Tie as tie
 look-up-requires : tie.Need-look-up-requires
 look-up-requires c κs = search needs
 
-control-at-requires : tie.Need-control-at-requires
-control-at-requires c κs = search needs
+control-of-requires : tie.Need-control-of-requires
+control-of-requires c κs = search needs
 
 is-quit-requires : tie.Need-is-quit-requires
 is-quit-requires c κs = search needs
@@ -18,4 +18,4 @@ returns c = search quits-is
 
 pub names-quit-spec : {M : Type 1} → statement M
 names-quit-spec =
-    tie.close (tie.spec look-up-requires control-at-requires is-quit-requires returns)
+    tie.close (tie.spec look-up-requires control-of-requires is-quit-requires returns)

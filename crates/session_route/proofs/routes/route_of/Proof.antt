@@ -4,14 +4,11 @@ use borrow.Author.Needs.{needs}
 use Rattle.session_route.proofs.routes.route_of.Statement.{statement}
 use Rattle.session_route.proofs.routes.route_of.Tie as tie
 
-control-at-requires : tie.Need-control-at-requires
-control-at-requires c κs = search needs
+control-of-requires : tie.Need-control-of-requires
+control-of-requires c κs = search needs
 
 in-multi-requires : tie.Need-in-multi-requires
 in-multi-requires c κs = search needs
-
-queueable-requires : tie.Need-queueable-requires
-queueable-requires c κs = search needs
 
 inside-requires : tie.Need-inside-requires
 inside-requires c κs = search needs
@@ -29,9 +26,8 @@ pub route-of-spec : {M : Type 1} → statement M
 route-of-spec =
     tie.close
     (tie.spec
-    control-at-requires
+    control-of-requires
     in-multi-requires
-    queueable-requires
     inside-requires
     returns
     outside-requires
