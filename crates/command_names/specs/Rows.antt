@@ -27,7 +27,7 @@ mostMeant (Count n) = some n
 abbrev pub rowMeant : CodeRow → Row
 rowMeant r = row (take (r .length) (r .text)) (r .name) (r .least) (mostMeant (r .most)) (r .pairs) (r .queueable)
 
--- THE RULE of the code's table: its rows are those of `server` and the one of an unknown name, and each name is within its text
+-- THE RULE of the code's table: its rows are those of `command_spec` and the one of an unknown name, and each name is within its text
 pub record TableRight (table : List CodeRow) : Type 0 where
   pub meant : map rowMeant table ≡ rows ++ unknownRow ∷ []
   pub within : map (λ (r : CodeRow). leb (r .length) (length (r .text))) table ≡ replicate (length table) true
