@@ -1,4 +1,6 @@
 // The decimal text of a number with a sign, written at the front of a lent buffer.
+#![tactic(auto)]
+
 pub mod digits;
 
 ghost use Rattle.std.specs.Prelude.{◌≡◌, nat_abs};

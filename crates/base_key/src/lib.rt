@@ -1,9 +1,11 @@
 // The order of keys, byte by byte, and of versions: key ascending, then sequence descending (src/key.rs).
+#![tactic(auto)]
+
 ghost use Rattle.std.specs.Prelude.{◌≡◌, ◌+◌, ◌%◌, ◌≤◌, length, take, drop};
 ghost use Rattle.base_key.specs.Blocks.{Alike, ByteIs, FourAt, EightAt, same_block};
 ghost use Rattle.base_key.specs.Keys.{compare_keys, order_of_versions, same_key};
 
-#[derive(Drop)]
+#[derive(Clone, Copy)]
 pub enum Order {
     Less,
     Equal,

@@ -1,12 +1,14 @@
 // Writing at the front of a lent buffer. Every writer of the reply side has one contract, `Puts`:
 // the text stands in front and the rest of the buffer is as it was, or the text does not fit and
 // the whole buffer is zero. Bytes are also copied and moved within lent memory that has room for them.
+#![tactic(auto)]
+
 ghost use Rattle.std.specs.Prelude.{◌≡◌, ◌∷◌, [], ◌+◌, ◌≤◌, length, replicate};
 ghost use Rattle.base_key.specs.Bytes.{put_at, moved_up};
 ghost use Rattle.base_writing.specs.Puts.{Puts, Place, sum_of, Joined, Adds};
 
 // What a writer answers: how many bytes it wrote, or that they do not fit.
-#[derive(Drop)]
+#[derive(Clone, Copy)]
 pub enum Put {
     Wrote(usize),
     Full,

@@ -1,4 +1,6 @@
 // The numbers that a call returns before it does anything.
+#![tactic(auto)]
+
 ghost use Rattle.std.specs.Prelude.{◌≡◌};
 ghost use Rattle.call_spec.specs.Calls.{lent_of};
 ghost use Rattle.call_numbers.specs.Numbers.{request_number, group_number};

@@ -1,4 +1,6 @@
 // One request on memory that is known to be valid: it is read, answered by its route, or refused. A preview of EXEC there.
+#![tactic(auto)]
+
 mod respond;
 
 ghost use Rattle.std.specs.Prelude.{◌≡◌, ◌/◌, length};

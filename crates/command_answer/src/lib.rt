@@ -1,4 +1,6 @@
 // The answer to a request, from the reply that was put into its buffer.
+#![tactic(auto)]
+
 ghost use Rattle.std.specs.Prelude.{◌≡◌, length, replicate};
 ghost use Rattle.command_answer.specs.Answers.{refusal, putAnswer};
 

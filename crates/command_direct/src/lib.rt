@@ -1,4 +1,6 @@
 // Commands outside MULTI: each answers at once, and its writes commit by themselves.
+#![tactic(auto)]
+
 mod kinds;
 mod listings;
 mod replies;

@@ -1,5 +1,7 @@
 // The replies that hang on no stored value: fixed ones, and the errors that quote a name. A `then_` form
 // writes behind what was put.
+#![tactic(auto)]
+
 ghost use Rattle.base_writing.specs.Puts.{Puts, Adds};
 ghost use Rattle.resp_spec.specs.Reply.{encode};
 ghost use Rattle.command_spec.specs.Command.{unknown_command};

@@ -1,5 +1,7 @@
 // Glob patterns (`specs/Glob.antt` of `command_spec`). What follows the last star is compared with the name's end first. Then only the
 // last star passed is retried, so the work is at most pattern times name.
+#![tactic(auto)]
+
 ghost use Rattle.std.specs.Prelude.{◌≡◌, ◌-◌, ◌≤◌, length, drop};
 ghost use Rattle.command_spec.specs.Glob.{tokens, matches, some_tail, glob, glob_told};
 ghost use Rattle.command_spec.specs.GlobWalk.{Stepped, Walked, LastStar, EndFound, BytePassed, Passed};

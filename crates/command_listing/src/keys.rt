@@ -15,7 +15,7 @@ use resp_encode::reply;
 use store_memtable::{COUNT, Found, live, read};
 
 // What a walk saw: how many keys match, and the place where it stopped.
-#[derive(Drop)]
+#[derive(Clone, Copy)]
 pub struct Seen {
     pub matched: u64,
     pub next: usize,

@@ -6,7 +6,7 @@ ghost use Rattle.command_meaning.specs.Reading.{amount_in};
 use base_number::Number;
 
 // A number without a sign, or none.
-#[derive(Drop)]
+#[derive(Clone, Copy)]
 pub enum Amount {
     Is(u64),
     Missing,

@@ -1,4 +1,6 @@
 // What a request means: its name, its argument count, then its arguments (`execute` of src/server.rs, without the store).
+#![tactic(auto)]
+
 pub mod amounts;
 pub mod arguments;
 pub mod kinds;
@@ -15,7 +17,7 @@ use command_names::Row;
 use command_spec::{Fixed, Name};
 
 // A command that lists the table.
-#[derive(Drop)]
+#[derive(Clone, Copy)]
 pub enum Listing {
     Dbsize,
     Keys,
@@ -26,7 +28,7 @@ pub enum Listing {
 }
 
 // A command that only answers: which reply.
-#[derive(Drop)]
+#[derive(Clone, Copy)]
 pub enum Read {
     Value,
     Live,
@@ -37,7 +39,7 @@ pub enum Read {
 }
 
 // What one of the eleven does, in the terms in which the code runs it.
-#[derive(Drop)]
+#[derive(Clone, Copy)]
 pub enum Kind {
     Pairs,
     Tombstones,
@@ -47,7 +49,7 @@ pub enum Kind {
 }
 
 // An error that keeps a request from being carried out.
-#[derive(Drop)]
+#[derive(Clone, Copy)]
 pub enum Refusal {
     Says(Fixed),
     // A wrong argument count of the command that argument 0 names.
@@ -56,7 +58,7 @@ pub enum Refusal {
 }
 
 // What a request means. Argument 0 is its name.
-#[derive(Drop)]
+#[derive(Clone, Copy)]
 pub enum Executed {
     Runs(Kind),
     Lists(Listing),

@@ -10,7 +10,7 @@ use base_number::integer;
 use command_spec::Fixed;
 
 // An option of SCAN with its value: MATCH, COUNT with its number, or an error.
-#[derive(Drop)]
+#[derive(Clone, Copy)]
 pub enum ScanOption {
     Match,
     Count(u64),

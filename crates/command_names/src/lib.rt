@@ -1,4 +1,6 @@
 // The table of commands (`specs/Names.antt` of `command_spec`), and what a row says of a command.
+#![tactic(auto)]
+
 ghost use Rattle.std.specs.Prelude.{◌≡◌, ◌≤◌, length, take};
 ghost use Rattle.command_spec.specs.Names.{same_name, count_right, with_options, operation_of, may_queue, not_above, control_of};
 ghost use Rattle.command_names.specs.Rows.{most_meant, row_meant, TableRight, Looked, control_said};
@@ -6,14 +8,14 @@ ghost use Rattle.command_names.specs.Rows.{most_meant, row_meant, TableRight, Lo
 use command_spec::{Name, Operation};
 
 // The most arguments behind a name.
-#[derive(Drop)]
+#[derive(Clone, Copy)]
 pub enum Most {
     Any,
     Count(usize),
 }
 
 // A command. The counts are those of the arguments behind its name.
-#[derive(Drop)]
+#[derive(Clone, Copy)]
 pub struct Row {
     // In capitals, filled up with zeros.
     pub text: [u8; 8],
@@ -231,7 +233,7 @@ const ROWS: [Row; 22] = [
 ];
 
 // The names that steer a session, and all others.
-#[derive(Drop)]
+#[derive(Clone, Copy)]
 pub enum Control {
     Multi,
     Exec,

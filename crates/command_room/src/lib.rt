@@ -1,4 +1,6 @@
 // The verdict on the writes of one command, and their commit.
+#![tactic(auto)]
+
 pub mod commit;
 pub mod read;
 pub mod room;

@@ -1,9 +1,11 @@
 // Commands and sessions (src/server.rs).
+#![tactic(auto)]
+
 pub mod pattern;
 pub mod watched;
 
 // The commands that may be queued.
-#[derive(Drop)]
+#[derive(Clone, Copy)]
 pub enum Operation {
     Get,
     Set,
@@ -19,7 +21,7 @@ pub enum Operation {
 }
 
 // What a name means.
-#[derive(Drop)]
+#[derive(Clone, Copy)]
 pub enum Name {
     Queueable(Operation),
     Dbsize,
@@ -36,7 +38,7 @@ pub enum Name {
 }
 
 // What a request returns: 0 or a number of document 01, the bytes used, and the length of the reply.
-#[derive(Drop)]
+#[derive(Clone, Copy)]
 pub struct Answer {
     pub number: u64,
     pub used: usize,
@@ -44,7 +46,7 @@ pub struct Answer {
 }
 
 // The fixed replies.
-#[derive(Drop)]
+#[derive(Clone, Copy)]
 pub enum Fixed {
     Ok,
     Queued,

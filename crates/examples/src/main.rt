@@ -1,5 +1,7 @@
 // Stored requests, readings of document 01 that are run and not proved, and published examples, each a record of `stdin`.
 // `stdout` has the answers of document 01, of the Rust, and of the published pages: `reference/make_examples.py` tells which.
+#![tactic(auto)]
+
 mod lines;
 mod records;
 mod replies;

@@ -1,4 +1,6 @@
 // What EXEC of a session would give.
+#![tactic(auto)]
+
 ghost use Rattle.std.specs.Prelude.{◌≡◌};
 ghost use Rattle.exec_decision.specs.Decided.{refused_preview};
 
@@ -10,7 +12,7 @@ pub const CONFLICT: u64 = 1;
 pub const NONE_REACHED: u64 = 255;
 
 // What a preview returns: 0 or a number, the verdict (255: none is reached), the length of the reply, and the last sequence that EXEC would leave.
-#[derive(Drop)]
+#[derive(Clone, Copy)]
 pub struct Preview {
     pub number: u64,
     pub verdict: u64,

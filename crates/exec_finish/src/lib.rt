@@ -1,4 +1,6 @@
 // The end of an EXEC: what is decided of it, and that applied: the answer, the commit, and the session cleared.
+#![tactic(auto)]
+
 ghost use Rattle.std.specs.Prelude.{◌+◌, ◌*◌, ◌^◌, ◌≤◌, ◌≡◌, ltb, length};
 ghost use Rattle.store_memtable.specs.Versions.{commit};
 ghost use Rattle.store_memtable.specs.Layout.{last_word, store_in, leave_words, leave_bytes};
@@ -15,7 +17,7 @@ use store_memtable::LAST;
 
 // An EXEC that is decided and ready to be applied: 0 or a number, the verdict (255: none is reached), the length of the reply, the rows of the
 // own writes, and the end of the data that they lie in.
-#[derive(Drop)]
+#[derive(Clone, Copy)]
 pub struct Prepared {
     pub number: u64,
     pub verdict: u64,

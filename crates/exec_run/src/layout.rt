@@ -35,7 +35,7 @@ pub const MOST_WRITES: usize = 4 * MOST_ARGUMENTS;
 pub const MOST_DATA: usize = MOST_ARGUMENT_BYTES + COUNTER_TEXT * MOST_QUEUED;
 
 // The sizes of a queue: its commands, their arguments, and the bytes of these.
-#[derive(Drop)]
+#[derive(Clone, Copy)]
 pub struct Sizes {
     pub commands: usize,
     pub arguments: usize,

@@ -1,4 +1,6 @@
 // EXEC: the mark, the watched keys, and the queued commands run; applied, or only looked at.
+#![tactic(auto)]
+
 pub mod answers;
 pub mod decide;
 pub mod layout;
@@ -9,7 +11,7 @@ pub mod transaction;
 use exec_finish::Prepared;
 
 // What is decided of an EXEC before its queue runs, or that it has to run.
-#[derive(Drop)]
+#[derive(Clone, Copy)]
 pub enum Early {
     Known(Prepared),
     Runs,

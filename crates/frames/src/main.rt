@@ -1,4 +1,6 @@
 // The program `frames`: one line in, one line out.
+#![tactic(auto)]
+
 ghost use Rattle.std.specs.Prelude.{◌+◌, ◌-◌, ◌*◌, ◌<◌, ◌≤◌, min, ◌≡◌, drop, length, take};
 ghost use Rattle.base_key.specs.Bytes.{part};
 ghost use Rattle.call_spec.specs.Calls.{lent_of};
@@ -37,7 +39,7 @@ const SESSION_WORDS: usize = 10304;
 const SESSION_BYTES: usize = 163840;
 
 // The line at hand in the part, the bytes of the part that are read, those of the page in use, and how many reads are left.
-#[derive(Drop)]
+#[derive(Clone, Copy)]
 struct Cursor {
     from: usize,
     end: usize,

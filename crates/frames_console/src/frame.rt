@@ -14,7 +14,7 @@ use frames_lines::{held, pieces};
 
 // A line whose whole answer is put, with the bytes of the page in use; or a frame to serve: its session, the end of its bytes in the
 // session's part, and the bytes of the page in use.
-#[derive(Drop)]
+#[derive(Clone, Copy)]
 pub enum Begun {
     Answered(usize),
     Serve(usize, usize, usize),

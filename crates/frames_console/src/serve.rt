@@ -16,7 +16,7 @@ const REPLY_TEXT: usize = 65536;
 
 // How far a frame has come: the place of the next request, whether a reply byte was written, the bytes of the page that are in use,
 // whether the page is full before the frame is over, and the frame's mark.
-#[derive(Drop)]
+#[derive(Clone, Copy)]
 pub struct Progress {
     pub from: usize,
     pub replied: bool,

@@ -8,7 +8,7 @@ use command_spec::Answer;
 use frames_lines::quit;
 
 // A returned number; no whole request; or a request with the bytes that are done with and those of its reply.
-#[derive(Drop)]
+#[derive(Clone, Copy)]
 pub enum Step {
     Refused(u64),
     Waits,

@@ -4,28 +4,28 @@ ghost use Rattle.call_spec.specs.Frames.{hex_value};
 ghost use Rattle.frames_lines.specs.Line.{or_sixteen, pair_of, Decodes, head_of, Room, LineRead};
 
 // A line of the form, with its session and the count of its bytes; or a line of another form.
-#[derive(Drop)]
+#[derive(Clone, Copy)]
 pub enum Given {
     Frame(usize, usize),
     Malformed,
 }
 
 // A byte from two digits.
-#[derive(Drop)]
+#[derive(Clone, Copy)]
 pub enum Pair {
     Byte(u8),
     NoByte,
 }
 
 // The count of the bytes of a hexadecimal text.
-#[derive(Drop)]
+#[derive(Clone, Copy)]
 pub enum Decoded {
     Bytes(usize),
     NoBytes,
 }
 
 // The session of a line whose first three bytes and whose length have the form.
-#[derive(Drop)]
+#[derive(Clone, Copy)]
 pub enum Head {
     Session(usize),
     NoSession,

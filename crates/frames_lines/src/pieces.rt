@@ -8,7 +8,7 @@ use base_decimal::digits;
 use base_writing::Put;
 
 // What ends the requests of a frame: nothing, a returned number, or a rest above 4,096 bytes.
-#[derive(Drop)]
+#[derive(Clone, Copy)]
 pub enum Mark {
     NoMark,
     Number(u64),

@@ -3,7 +3,7 @@ ghost use Rattle.std.specs.Prelude.{◌≡◌};
 ghost use Rattle.frames_lines.specs.Rest.{Within, moved, Keeps};
 
 // How many bytes of the rest are kept, or that it was too long.
-#[derive(Drop)]
+#[derive(Clone, Copy)]
 pub enum Kept {
     Bytes(usize),
     TooLong,

@@ -1,4 +1,6 @@
 // The verdict of one taken member, and its effect: an accepted member's writes are committed at once, in order.
+#![tactic(auto)]
+
 ghost use Rattle.std.specs.Prelude.{◌≡◌, true, ◌+◌, ◌*◌, ◌^◌, ◌≤◌, ◌<◌, ltb, length, set};
 ghost use Rattle.store_memtable.specs.Versions.{commit_one, commit};
 ghost use Rattle.store_memtable.specs.Layout.{count_word, used_word, most_versions_word, most_bytes_word, store_in, leave_words, leave_bytes};

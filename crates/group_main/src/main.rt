@@ -1,4 +1,6 @@
 // Group calls on local arrays: each number with the verdict bytes, written to standard output.
+#![tactic(auto)]
+
 use group_spec::Member;
 use libc::STDOUT_FILENO;
 use registry::{group, open};

@@ -1,4 +1,6 @@
 // Writes of ascending keys committed in one pass over the store, from the last to the first: each row and byte moves at most once.
+#![tactic(auto)]
+
 ghost use Rattle.std.specs.Prelude.{◌≡◌, ◌+◌, ◌*◌, ◌≤◌, length};
 ghost use Rattle.store_memtable.specs.Versions.{commit};
 ghost use Rattle.store_memtable.specs.Layout.{count_word, used_word, last_word, most_bytes_word, store_in, leave_words, leave_bytes};

@@ -1,4 +1,6 @@
 // The walk over a lent group: its parts are looked at first, then its members are settled one after the other.
+#![tactic(auto)]
+
 ghost use Rattle.std.specs.Prelude.{◌≡◌};
 ghost use Rattle.base_key.specs.Bytes.{◌and◌};
 ghost use Rattle.group_spec.specs.Members.{member_inside, members_inside};

@@ -1,4 +1,6 @@
 // The published calls and the readings of a table, for programs in C and Rust. A slice goes over as a pointer and a count.
+#![tactic(auto)]
+
 ghost use Rattle.std.specs.Prelude.{◌≡◌, ◌/◌, length};
 ghost use Rattle.store_memtable.specs.Rows.{RowIn, Valid};
 ghost use Rattle.call_spec.specs.Calls.{GroupPromise, OpenPromise, PreviewPromise, RequestPromise, TablePromise, lent_of};
@@ -11,7 +13,7 @@ use store_memtable::{Found, LAST, live, read};
 
 // What a request returns: 0 or a number of document 01, the bytes used, and the length of the reply.
 #[repr(C)]
-#[derive(Drop)]
+#[derive(Clone, Copy)]
 pub struct Answered {
     pub number: u64,
     pub used: usize,
@@ -20,7 +22,7 @@ pub struct Answered {
 
 // What a preview returns: 0 or a number, the verdict (255: none is reached), the length of the reply, and the last sequence that EXEC would leave.
 #[repr(C)]
-#[derive(Drop)]
+#[derive(Clone, Copy)]
 pub struct Previewed {
     pub number: u64,
     pub verdict: u64,
@@ -30,7 +32,7 @@ pub struct Previewed {
 
 // A value: 0 or 9, 1 if it was found, and the part of the store's bytes that holds it.
 #[repr(C)]
-#[derive(Drop)]
+#[derive(Clone, Copy)]
 pub struct Reading {
     pub number: u64,
     pub found: u64,
@@ -40,7 +42,7 @@ pub struct Reading {
 
 // A live key: 0 or 9, 1 if one was found, the place behind it, and the parts of the store's bytes that hold key and value.
 #[repr(C)]
-#[derive(Drop)]
+#[derive(Clone, Copy)]
 pub struct Listed {
     pub number: u64,
     pub found: u64,
@@ -54,7 +56,7 @@ pub struct Listed {
 // What the reader of replies answers: 0, 11 or 12; 0 wait, 1 a whole reply, 2 a fault, 3 with a number; the bytes and the count of items of a whole
 // reply, and the offset of a fault.
 #[repr(C)]
-#[derive(Drop)]
+#[derive(Clone, Copy)]
 pub struct ReplyAnswer {
     pub number: u64,
     pub state: u64,

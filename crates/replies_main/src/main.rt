@@ -1,6 +1,8 @@
 // Replies read by the proved reader, each on one line with what it answers: published examples of RESP2, the limits of lines that no
 // definition computes in a moment, the order of waits, faults and numbers, and then the records of `stdin`, which were made at random.
 // `stdout` has the answers that document 02 asks for, from a reader that was written apart from this one.
+#![tactic(auto)]
+
 ghost use Rattle.std.specs.Prelude.{◌≤◌};
 
 use libc::{STDIN_FILENO, STDOUT_FILENO};

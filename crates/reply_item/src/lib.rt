@@ -1,11 +1,13 @@
 // What a console receives: what a reply is to its reader, and one item of it, read.
+#![tactic(auto)]
+
 pub mod item_line;
 pub mod next;
 pub mod sizes;
 pub mod whole_number;
 
 // An item of a reply: the start and the length of its bytes, its number as a word of 64 bits (two's complement), or its count.
-#[derive(Drop)]
+#[derive(Clone, Copy)]
 pub enum Item {
     SimpleText(usize, usize),
     ErrorText(usize, usize),
@@ -17,7 +19,7 @@ pub enum Item {
 }
 
 // A length or a count: a number, `-1` for no bulk or array, or neither.
-#[derive(Drop)]
+#[derive(Clone, Copy)]
 pub enum Size {
     Of(u64),
     Absent,
@@ -25,7 +27,7 @@ pub enum Size {
 }
 
 // The line of an item: an item that is complete with it, how many bytes or items follow, or a fault.
-#[derive(Drop)]
+#[derive(Clone, Copy)]
 pub enum ItemLine {
     Complete(Item),
     BulkFollows(usize),
@@ -35,7 +37,7 @@ pub enum ItemLine {
 
 // What stands where an item should: not all of it yet, a fault at an offset, a number to return, an item and the offset behind it,
 // or an array of so many items and the offset of the first.
-#[derive(Drop)]
+#[derive(Clone, Copy)]
 pub enum Step {
     Wait,
     Fault(usize),
@@ -46,7 +48,7 @@ pub enum Step {
 
 // What the bytes hold: no whole reply yet; a reply with the bytes it uses and its count of items; a fault with the offset of its
 // item; or a number: 11, no place for an item, or 12, arrays nest too deep.
-#[derive(Drop)]
+#[derive(Clone, Copy)]
 pub enum ReplyRead {
     Wait,
     Whole(usize, usize),

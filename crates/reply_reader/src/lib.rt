@@ -1,4 +1,6 @@
 // A reply, read: wait, one whole reply with the bytes it uses, a fault with the offset of its item, or a number.
+#![tactic(auto)]
+
 pub mod table;
 
 ghost use Rattle.std.specs.Prelude.{◌≡◌, ◌/◌, length};

@@ -24,7 +24,7 @@ const ARRAY: u64 = 7;
 pub const ITEM_WORDS: usize = 4;
 
 // An item in the table: its kind; the start and the length of its bytes; its number or count.
-#[derive(Drop)]
+#[derive(Clone, Copy)]
 struct Words {
     kind: u64,
     start: u64,

@@ -1,4 +1,6 @@
 // One argument of an array: a line with its length, its bytes, and CR LF.
+#![tactic(auto)]
+
 ghost use Rattle.std.specs.Prelude.{◌≡◌};
 ghost use Rattle.resp_spec.specs.Steps.{Inside};
 ghost use Rattle.resp_bulk.specs.Arguments.{begins_with, ArgumentIs, argument_at, argument_of_line, argument_of_size, LineFrom};
@@ -8,7 +10,7 @@ use resp_spec::line::Line;
 use resp_spec::{Fault, Header, Span, line};
 
 // What stands where an argument should: not all of it yet, a fault, or its part of the request.
-#[derive(Drop)]
+#[derive(Clone, Copy)]
 pub enum Argument {
     Unread,
     Faulty(Fault),

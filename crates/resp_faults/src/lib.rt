@@ -1,4 +1,6 @@
 // The reply to a protocol error.
+#![tactic(auto)]
+
 ghost use Rattle.std.specs.Prelude.{◌≡◌, map, ◌++◌};
 ghost use Rattle.base_key.specs.Bytes.{bytes};
 ghost use Rattle.base_writing.specs.Puts.{Puts, Adds};

@@ -1,4 +1,6 @@
 // The header of an array or of an argument: the length that it says, within its limit.
+#![tactic(auto)]
+
 ghost use Rattle.std.specs.Prelude.{◌≡◌, length};
 ghost use Rattle.base_number.specs.Number.{length_of};
 ghost use Rattle.resp_spec.specs.Request.{header_of, header_within, limit_of, span};
@@ -8,7 +10,7 @@ use base_number::{Length, header};
 use resp_spec::{Fault, Header, Span};
 
 // The length that a header says, or what is wrong with it.
-#[derive(Drop)]
+#[derive(Clone, Copy)]
 pub enum Count {
     Counts(u64),
     Wrong(Fault),

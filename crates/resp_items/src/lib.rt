@@ -1,4 +1,6 @@
 // An item behind what was put: its writer is lent the rest of the buffer.
+#![tactic(auto)]
+
 ghost use Rattle.base_writing.specs.Puts.{Adds};
 ghost use Rattle.base_number.specs.Decimal.{digits};
 ghost use Rattle.resp_spec.specs.Reply.{Integer, BulkString, Nil, encode};

@@ -1,2 +1,4 @@
 // Reading a request from the bytes of a connection (src/resp.rs).
+#![tactic(auto)]
+
 pub mod request;

@@ -1,4 +1,6 @@
 // Text of simple and error replies: CR and LF become spaces, and what is not UTF-8 becomes U+FFFD.
+#![tactic(auto)]
+
 ghost use Rattle.std.specs.Prelude.{◌≡◌, map};
 ghost use Rattle.base_writing.specs.Puts.{Puts, Adds};
 ghost use Rattle.resp_spec.specs.Reply.{clean};

@@ -2,7 +2,7 @@
 ghost use Rattle.resp_spec.specs.Steps.{FeedIs, FeedIn, TextLen, LineIs};
 
 // Where the line's LF stands.
-#[derive(Drop)]
+#[derive(Clone, Copy)]
 pub enum Feed {
     At(usize),
     NotYet,
@@ -10,7 +10,7 @@ pub enum Feed {
 }
 
 // The length of a line's text, and the bytes it takes with its end.
-#[derive(Drop)]
+#[derive(Clone, Copy)]
 pub enum Line {
     Text(usize, usize),
     Unfinished,

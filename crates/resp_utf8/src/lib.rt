@@ -1,11 +1,13 @@
 // Bytes as UTF-8 text, one character or ill-formed part at a time.
+#![tactic(auto)]
+
 ghost use Rattle.std.specs.Prelude.{◌≡◌};
 ghost use Rattle.resp_spec.specs.Utf8.{leads, is_utf8};
 ghost use Rattle.resp_utf8.specs.Pieces.{lead_of, piece_of, Begun, NotEmpty};
 
 // What a first byte says: a character by itself, a first byte of several, behind which as many must
 // follow the next one, which has bounds, or no first byte.
-#[derive(Drop)]
+#[derive(Clone, Copy)]
 pub enum Lead {
     Single,
     Several(usize, u8, u8),
@@ -14,7 +16,7 @@ pub enum Lead {
 
 // What stands at the front of a text: a character of so many bytes, or a maximal subpart of an
 // ill-formed one.
-#[derive(Drop)]
+#[derive(Clone, Copy)]
 pub enum Piece {
     Whole(usize),
     Broken(usize),

@@ -1,4 +1,6 @@
 // Reading the head of one session, and the changes that touch its head alone.
+#![tactic(auto)]
+
 ghost use Rattle.std.specs.Prelude.{◌≡◌, length, get_or};
 ghost use Rattle.command_spec.specs.Session.{marked};
 ghost use Rattle.command_spec.specs.Sessions.{yes?};

@@ -1,4 +1,6 @@
 // The queue of one session: its limits, and a command appended behind it.
+#![tactic(auto)]
+
 ghost use Rattle.std.specs.Prelude.{◌≡◌, ◌+◌, ◌*◌, ◌≤◌, length};
 ghost use Rattle.base_key.specs.Bytes.{part, total, concat, put_at};
 ghost use Rattle.command_spec.specs.Lent.{capped};

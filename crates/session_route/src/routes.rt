@@ -9,7 +9,7 @@ use command_names::{Control, Row};
 use command_spec::Fixed;
 
 // A change of the session's head with its reply, or a reply alone.
-#[derive(Drop)]
+#[derive(Clone, Copy)]
 pub enum Step {
     Open,
     Unwatch,
@@ -18,7 +18,7 @@ pub enum Step {
 }
 
 // The requests that the session answers without the store.
-#[derive(Drop)]
+#[derive(Clone, Copy)]
 pub enum Way {
     Steer(Step),
     Watch,
@@ -27,7 +27,7 @@ pub enum Way {
 }
 
 // `Exec` and `Run` need the store.
-#[derive(Drop)]
+#[derive(Clone, Copy)]
 pub enum Route {
     Here(Way),
     Exec,

@@ -1,4 +1,6 @@
 // Whether one session in its own lent words and bytes is valid (layout at the head of `specs/Sessions.antt` of `command_spec`), and all sixteen.
+#![tactic(auto)]
+
 ghost use Rattle.std.specs.Prelude.{◌≡◌, ◌+◌, ◌-◌, ◌<◌, ◌≤◌, length, get_or};
 ghost use Rattle.base_key.specs.Bytes.{part, total};
 ghost use Rattle.base_key.specs.Keys.{key_below};

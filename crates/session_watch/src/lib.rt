@@ -1,4 +1,6 @@
 // The watched keys of one session, ascending: lengths and sequences in tables of 32 words, bytes one behind the other.
+#![tactic(auto)]
+
 ghost use Rattle.std.specs.Prelude.{◌≡◌, [], ◌∷◌, ◌+◌, ◌-◌, ◌≤◌, length, take};
 ghost use Rattle.store_memtable.specs.Rows.{Valid, versions_in};
 ghost use Rattle.base_key.specs.Bytes.{part, over_front, put_at};

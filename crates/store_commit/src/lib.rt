@@ -1,4 +1,6 @@
 // The lent store: its validity, opening, and the commit of a write.
+#![tactic(auto)]
+
 pub mod commit;
 pub mod merge;
 pub mod open;

@@ -1,0 +1,11 @@
+use Rattle.base_key.proofs.Writes.{moving_none, moving_more, moving_all}
+use Rattle.base_writing.proofs.shift_up.Goals as goal
+
+pub loop-j-init : goal.loop-j-init
+loop-j-init c = search moving_none
+
+pub loop-j-preserved : goal.loop-j-preserved
+loop-j-preserved c = search moving_more
+
+pub returns : goal.returns
+returns c = search moving_all

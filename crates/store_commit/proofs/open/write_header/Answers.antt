@@ -1,0 +1,17 @@
+-- `store_commit::open::write_header` meets its contract. Five stores in a row. Assumes nothing.
+use lib.ListN.{length-set}
+use native.Mathlib.Omega.{arith}
+use Rattle.store_memtable.proofs.Opening.{header_written}
+use Rattle.store_commit.proofs.open.write_header.Goals as goal
+
+pub bounds-words-1 : goal.bounds-words-1
+bounds-words-1 c = simp length-set (omega arith)
+
+pub bounds-words-2 : goal.bounds-words-2
+bounds-words-2 c = simp length-set (omega arith)
+
+pub bounds-words-3 : goal.bounds-words-3
+bounds-words-3 c = simp length-set (omega arith)
+
+pub returns : goal.returns
+returns c = search header_written
