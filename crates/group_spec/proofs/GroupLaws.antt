@@ -111,4 +111,4 @@ after_group ms st s = after_all [] (take (taken (map member_size ms)) ms) st s
 pub verdicts_long : (written : List Key) (ms : List Pending) (st : Store) → length (judge_all written ms st).verdicts ≡ length ms
 unfolding judge_all
 verdicts_long written [] st = refl
-verdicts_long written (m ∷ ms) st = ap suc (verdicts_long _ ms _)
+verdicts_long written (m ∷ ms) st = ap suc (verdicts_long (written_after (judge written st m) m written) ms (store_after (judge written st m) m.writes st))
