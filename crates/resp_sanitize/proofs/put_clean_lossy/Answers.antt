@@ -12,14 +12,6 @@ whole c = search whole_sized
 broken : (c : In-Broken) → Sized c.args.text.now c.loop-at.at c.in-Broken.n
 broken c = search broken_sized
 
--- FIX goal same_length
-same_length : tie.Need-same-length invariant-loop decreases-loop
-same_length c = length-kept c.before.before.before.loop.invariant.puts
-
--- FIX goal same-length-2
-same-length-2 : tie.Need-same-length-2 invariant-loop decreases-loop
-same-length-2 c = length-kept c.before.loop.invariant.puts
-
 pub loop-at-init : goal.loop-at-init
 loop-at-init c = search shown_none
 
