@@ -255,8 +255,8 @@ module _ {p : Bytes} (s : Bytes) {behind count : ℕ} (a : LastStar p behind cou
     end_room = go (dec_le count (length s))
       where
         go : Dec (count ≤ length s) → count ≤ length s
-        go (yes h) = h
-        go (no h) = clash (sym is ∙ e) (sym (name_short (omega arith)))
+        go (Prim.yes h) = h
+        go (Prim.no h) = clash (sym is ∙ e) (sym (name_short (omega arith)))
 
     pub end_there : EndFound p s behind (length s - count)
     end_there = record {
@@ -277,12 +277,12 @@ module _ {p s : Bytes} {behind end : ℕ} (f : EndFound p s behind end) where
       plain = from_plain p behind f.last.is
 
       go : Dec (from ≤ end) → leb from end ≡ some_tail (matches t) (drop from s)
-      go (yes l) =
+      go (Prim.yes l) =
           let n : from + (length (drop from s) - length t) ≡ end = omega (arith, f.inside, f.last.counted, length-drop from s) in
           le-leb from end l ∙ sym f.found ∙ ap (λ (k : ℕ). matches t (drop k s)) (sym n)
           ∙ ap (matches t) (sym (drop-drop (length (drop from s) - length t) from s))
           ∙ sym (end_only t plain (drop from s) (omega (arith, f.inside, f.last.counted, length-drop from s)))
-      go (no l) =
+      go (Prim.no l) =
           lt-leb from end (omega arith) ∙ sym (end_short t plain (drop from s) (omega (arith, f.last.counted, length-drop from s)))
 
   pub retry_last : {start first at from : ℕ} → Retrying p s start first at from → at ≡ behind → leb from end ≡ some_tail (matches (tokens (drop start p))) (drop first s)

@@ -1,0 +1,12 @@
+-- `command_glob::glob` meets its contract. Assumes nothing.
+use Rattle.command_glob.proofs.Ends.{end_room, end_there, end_refuses}
+use Rattle.command_glob.proofs.glob.Goals as goal
+
+pub overflow_sub-name : goal.overflow_sub-name
+overflow_sub-name c = search end_room
+
+pub front_matches-requires : goal.front_matches-requires
+front_matches-requires c = search end_there
+
+pub returns : goal.returns
+returns c = search end_refuses

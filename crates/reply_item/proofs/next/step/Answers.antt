@@ -1,0 +1,15 @@
+-- `reply_item::next::step` meets its contract. Assumes nothing.
+use Rattle.reply_item.proofs.Standing.{step_line_in, step_text, step_unfinished, step_too_long}
+use Rattle.reply_item.proofs.next.step.Goals as goal
+
+pub step_line-requires : goal.step_line-requires
+step_line-requires c = search step_line_in
+
+pub returns-in-Text : goal.returns-in-Text
+returns-in-Text c = search step_text
+
+pub returns-in-Unfinished : goal.returns-in-Unfinished
+returns-in-Unfinished c = search step_unfinished
+
+pub returns-in-TooLong : goal.returns-in-TooLong
+returns-in-TooLong c = search step_too_long

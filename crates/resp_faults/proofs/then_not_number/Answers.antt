@@ -1,0 +1,6 @@
+-- `resp_faults::then_not_number` meets its contract. The parts of the text, one behind the other. Assumes nothing.
+use Rattle.resp_faults.proofs.Faults.{write_not_number}
+use Rattle.resp_faults.proofs.then_not_number.Goals as goal
+
+pub returns : goal.returns
+returns c = search write_not_number
