@@ -23,7 +23,7 @@ pub put_arguments-requires-clause-places_in_bounds : goal.put_arguments-requires
 put_arguments-requires-clause-places_in_bounds c = omega (arith, append_room c.requires.held c.requires.parts_in c.requires.has_room c.word-queued.ensures c.sum_within-arguments.ensures c.sum_within-used.ensures, c.requires.held.bytes)
 
 pub bounds-words-3 : goal.bounds-words-3
-bounds-words-3 c = simp length-set (omega (arith, c.put_lengths.auto.0, c.requires.held.words))
+bounds-words-3 c = simp length-set (omega (arith, c.put_lengths.auto.words, c.requires.held.words))
 
 pub returns : goal.returns
 returns c = append_left c.requires.held c.requires.parts_in c.requires.has_room c.word-queued.ensures c.sum_within-arguments.ensures c.sum_within-used.ensures c.put_lengths.ensures c.put_arguments.ensures

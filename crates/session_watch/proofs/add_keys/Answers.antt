@@ -1,5 +1,4 @@
 use Prim.Native.Nat.{◌-◌}
-use mathlib.Core.Path.{◌∙◌}
 use native.Mathlib.Omega.{arith}
 use Rattle.session_memory.proofs.Watching.{growing_none, growing_full, growing_more, grown_all, grown_full, grown_holding, key_inside}
 use Rattle.session_watch.proofs.add_keys.Goals as goal
@@ -21,15 +20,6 @@ slice_bounds-add_key-end c = omega (arith, key_inside c.loop-i.invariant c.requi
 
 pub add_key-grown-requires : goal.add_key-grown-requires
 add_key-grown-requires c = c.loop-i.invariant.table
-
-pub shape_of-lens-in-Full : goal.shape_of-lens-in-Full
-shape_of-lens-in-Full c = c.add_key-grown.auto.0 ∙ c.loop-i.invariant.same_lens
-
-pub shape_of-seqs-in-Full : goal.shape_of-seqs-in-Full
-shape_of-seqs-in-Full c = c.add_key-grown.auto.1.0 ∙ c.loop-i.invariant.same_seqs
-
-pub shape_of-text-in-Full : goal.shape_of-text-in-Full
-shape_of-text-in-Full c = c.add_key-grown.auto.1.1.0 ∙ c.loop-i.invariant.same_text
 
 pub returns-in-Full : goal.returns-in-Full
 returns-in-Full c = growing_full c.loop-i.invariant c.word-start.ensures c.word.ensures c.loop-i-test.true (search grown_full)

@@ -15,4 +15,4 @@ add_keys-requires-clause-from_le_to c = c.requires.le_count.0
 
 pub returns : goal.returns
 returns c = copied_grown c.requires.held c.word-watched.ensures c.sum_within-used.ensures _ _ _ c.requires.le_count.1 c.requires.le_count.2 c.requires.le_count.3 c.put_words.ensures c.put_words-2.ensures c.put_at.ensures
-    c.args.last (arguments_at 1 (c.args.count - 1) c.args.places.now c.args.input.now) c.add_keys.new.0 c.add_keys.new.1.0 c.add_keys.new.1.1.0 c.add_keys.result c.add_keys.ensures
+    c.args.last (arguments_at 1 (c.args.count - 1) c.args.places.now c.args.input.now) c.add_keys.new.lens c.add_keys.new.seqs c.add_keys.new.text c.add_keys.result c.add_keys.ensures

@@ -1,0 +1,19 @@
+-- `command_lookup::counter::held_number` meets its contract. Assumes nothing.
+use Rattle.command_lookup.proofs.Seeing.{seen_row, seen_version}
+use Rattle.command_lookup.proofs.Counters.{held_written, held_stored, held_absent}
+use Rattle.command_lookup.proofs.counter.held_number.Goals as goal
+
+pub written_value-requires : goal.written_value-requires
+written_value-requires c = search seen_row
+
+pub value_of-requires : goal.value_of-requires
+value_of-requires c = search seen_version
+
+pub returns-in-Written : goal.returns-in-Written
+returns-in-Written c = search held_written
+
+pub returns-in-Stored : goal.returns-in-Stored
+returns-in-Stored c = search held_stored
+
+pub returns-in-Absent : goal.returns-in-Absent
+returns-in-Absent c = search held_absent
