@@ -1,0 +1,12 @@
+-- `session_route::queueing::queue_up` meets its contract. By the argument count, and whether SET has options. Assumes nothing.
+use Rattle.session_route.proofs.Enqueueing.{queue_miscounted, queue_options, queue_counted}
+use Rattle.session_route.proofs.queueing.queue_up.Goals as goal
+
+pub returns-then-with_options : goal.returns-then-with_options
+returns-then-with_options c = search queue_options
+
+pub returns-then-count_right : goal.returns-then-count_right
+returns-then-count_right c = search queue_counted
+
+pub returns : goal.returns
+returns c = search queue_miscounted
