@@ -1,0 +1,6 @@
+-- `command_direct::replies::answer_fixed` meets its contract. Assumes nothing.
+use Rattle.command_room.proofs.Served.{runs_quiet}
+use Rattle.command_direct.proofs.replies.answer_fixed.Goals as goal
+
+pub returns : goal.returns
+returns c = search runs_quiet

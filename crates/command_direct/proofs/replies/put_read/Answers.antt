@@ -1,0 +1,31 @@
+-- `command_direct::replies::put_read` meets its contract. Assumes nothing.
+use Rattle.command_meaning.proofs.KindLaws.{least_one, least_value, least_echo}
+use Rattle.command_direct.proofs.Answering.{read_echo, read_live, read_says, read_value, read_values}
+use Rattle.command_direct.proofs.replies.put_read.Goals as goal
+
+pub argument-requires-clause-k_lt_count : goal.argument-requires-clause-k_lt_count
+argument-requires-clause-k_lt_count c = search least_value
+
+pub put_live-requires-clause-le_count : goal.put_live-requires-clause-le_count
+put_live-requires-clause-le_count c = search least_one
+
+pub put_values-requires-clause-le_count : goal.put_values-requires-clause-le_count
+put_values-requires-clause-le_count c = search least_one
+
+pub argument-text-requires-clause-k_lt_count : goal.argument-text-requires-clause-k_lt_count
+argument-text-requires-clause-k_lt_count c = search least_echo
+
+pub returns-in-Value : goal.returns-in-Value
+returns-in-Value c = search read_value
+
+pub returns-in-Live : goal.returns-in-Live
+returns-in-Live c = search read_live
+
+pub returns-in-Values : goal.returns-in-Values
+returns-in-Values c = search read_values
+
+pub returns-in-Echo : goal.returns-in-Echo
+returns-in-Echo c = search read_echo
+
+pub returns-in-Says : goal.returns-in-Says
+returns-in-Says c = search read_says

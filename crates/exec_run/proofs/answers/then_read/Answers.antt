@@ -1,0 +1,31 @@
+-- `exec_run::answers::then_read` meets its contract. Assumes nothing.
+use Rattle.command_meaning.proofs.KindLaws.{least_one, least_value, least_echo}
+use Rattle.exec_run.proofs.AnswerLaws.{read_value, read_live, read_values, read_echo, read_says}
+use Rattle.exec_run.proofs.answers.then_read.Goals as goal
+
+pub argument-requires-clause-k_lt_count : goal.argument-requires-clause-k_lt_count
+argument-requires-clause-k_lt_count c = search least_value
+
+pub then_live-requires-clause-le_count : goal.then_live-requires-clause-le_count
+then_live-requires-clause-le_count c = search least_one
+
+pub then_values-requires-clause-from_le_to : goal.then_values-requires-clause-from_le_to
+then_values-requires-clause-from_le_to c = search least_one
+
+pub argument-requires-in-Echo-clause-k_lt_count : goal.argument-requires-in-Echo-clause-k_lt_count
+argument-requires-in-Echo-clause-k_lt_count c = search least_echo
+
+pub returns-in-Value : goal.returns-in-Value
+returns-in-Value c = search read_value
+
+pub returns-in-Live : goal.returns-in-Live
+returns-in-Live c = search read_live
+
+pub returns-in-Values : goal.returns-in-Values
+returns-in-Values c = search read_values
+
+pub returns-in-Echo : goal.returns-in-Echo
+returns-in-Echo c = search read_echo
+
+pub returns-in-Says : goal.returns-in-Says
+returns-in-Says c = search read_says
