@@ -1,53 +1,54 @@
 // Lines on standard output. Bytes are written as in a byte string: CR, LF and `\` are escaped, and a byte outside
 // ASCII's printed ones is `\x` and two digits.
 use base_writing::Put;
-use libc::STDOUT_FILENO;
 use resp_spec::Span;
+use std::io::Stdout;
 
-pub fn text(bytes: &[u8]) {
-    io::write_all(STDOUT_FILENO, bytes);
+// A write that fails is passed over.
+pub fn text(stdout: Stdout, bytes: &[u8]) {
+    let _ = stdout.write_all(bytes);
 }
 
-pub fn number(n: usize) {
-    io::print_decimal(STDOUT_FILENO, n as u64);
+pub fn number(stdout: Stdout, n: usize) {
+    let _ = stdout.print(n);
 }
 
-pub fn byte(one: u8) {
-    text(&[one]);
+pub fn byte(stdout: Stdout, one: u8) {
+    text(stdout, &[one]);
 }
 
-fn escape(one: u8) {
-    text(&[b'\\', one]);
+fn escape(stdout: Stdout, one: u8) {
+    text(stdout, &[b'\\', one]);
 }
 
-fn hex(one: u8) {
-    escape(b'x');
-    io::print_hex(STDOUT_FILENO, one as u64, 2);
+fn hex(stdout: Stdout, one: u8) {
+    escape(stdout, b'x');
+    let _ = print!(stdout; "{one:02x}");
 }
 
-fn escaped_byte(one: u8) {
+fn escaped_byte(stdout: Stdout, one: u8) {
     match one {
-        b'\r' => escape(b'r'),
-        b'\n' => escape(b'n'),
-        b'\\' => escape(b'\\'),
-        32..=126 => byte(one),
-        _ => hex(one),
+        b'\r' => escape(stdout, b'r'),
+        b'\n' => escape(stdout, b'n'),
+        b'\\' => escape(stdout, b'\\'),
+        32..=126 => byte(stdout, one),
+        _ => hex(stdout, one),
     }
 }
 
-pub fn escaped(bytes: &[u8]) {
+pub fn escaped(stdout: Stdout, bytes: &[u8]) {
     let mut i = 0;
     while i < bytes.len() {
-        escaped_byte(bytes[i]);
+        escaped_byte(stdout, bytes[i]);
         i += 1;
     }
 }
 
 // What a writer put at the front of `buffer`, or `full`, and the line's end.
-pub fn written(buffer: &[u8], put: Put) {
+pub fn written(stdout: Stdout, buffer: &[u8], put: Put) {
     match put {
-        Put::Wrote(len) => escaped(resp_faults::part_of(buffer, Span { start: 0, len })),
-        Put::Full => text(b"full"),
+        Put::Wrote(len) => escaped(stdout, resp_faults::part_of(buffer, Span { start: 0, len })),
+        Put::Full => text(stdout, b"full"),
     }
-    byte(b'\n')
+    byte(stdout, b'\n')
 }

@@ -2,16 +2,18 @@
 // `stdout` has the answers of document 01, of the Rust, and of the published pages: `reference/make_examples.py` tells which.
 #![tactic(auto)]
 
+ghost use Rattle.std.specs.Prelude.{◌≤◌, length};
+
 mod lines;
 mod records;
 mod replies;
 mod requests;
 
 use command_spec::pattern::Compared;
-use libc::STDIN_FILENO;
+use std::io::{Read, Stdin, Stdout};
 
 // What a pattern answers to a name, which are two records, and the line's end.
-fn pattern(both: &[u8]) {
+fn pattern(stdout: Stdout, both: &[u8]) {
     let one = records::record_at(both, 0);
     let two = records::record_at(both, one.end);
     let answer = command_glob::compare(
@@ -19,31 +21,31 @@ fn pattern(both: &[u8]) {
         resp_faults::part_of(both, two.bytes),
     );
     match answer {
-        Compared::Matches => lines::text(b"matches\n"),
-        Compared::Differs => lines::text(b"does not match\n"),
-        Compared::DiffersByTheEnd => lines::text(b"does not match, by the end\n"),
+        Compared::Matches => lines::text(stdout, b"matches\n"),
+        Compared::Differs => lines::text(stdout, b"does not match\n"),
+        Compared::DiffersByTheEnd => lines::text(stdout, b"does not match, by the end\n"),
     }
 }
 
 // `#` is a label for the line, `?` a pattern and a name, `=` a reply, and a digit a request with so many places.
-fn show(kind: u8, bytes: &[u8]) {
+fn show(stdout: Stdout, kind: u8, bytes: &[u8]) {
     match kind {
-        b'#' => lines::text(bytes),
-        b'?' => pattern(bytes),
-        b'=' => replies::reply(bytes),
-        b'2' => requests::request(bytes, 2),
-        b'4' => requests::request(bytes, 4),
-        b'8' => requests::request(bytes, 8),
+        b'#' => lines::text(stdout, bytes),
+        b'?' => pattern(stdout, bytes),
+        b'=' => replies::reply(stdout, bytes),
+        b'2' => requests::request(stdout, bytes, 2),
+        b'4' => requests::request(stdout, bytes, 4),
+        b'8' => requests::request(stdout, bytes, 8),
         _ => {}
     }
 }
 
-fn show_all(input: &[u8]) {
+fn show_all(stdout: Stdout, input: &[u8]) {
     let mut at = 0;
     let mut turns = input.len();
     while 0 < turns {
         let one = records::record_at(input, at);
-        show(one.kind, resp_faults::part_of(input, one.bytes));
+        show(stdout, one.kind, resp_faults::part_of(input, one.bytes));
         at = one.end;
         turns -= 1;
     }
@@ -53,8 +55,23 @@ fn room() -> [u8; 2097152] {
     [0u8; 2097152]
 }
 
-fn main() {
+// Reads until the buffer is full or the input ends, and gives how many bytes were read; a read that fails ends the input.
+fn read_full(mut stdin: Stdin, buffer: &mut [u8]) -> usize
+    ensures { result ≤ length buffer.new }
+{
+    let mut done = 0;
+    while done < buffer.len() {
+        let count = stdin.read(&mut buffer[done..]).unwrap_or(0);
+        if count == 0 {
+            return done;
+        }
+        done += count;
+    }
+    done
+}
+
+fn main(rt: HostRuntime) {
     let mut buffer = room();
-    let n = io::read_full(STDIN_FILENO, &mut buffer);
-    show_all(&buffer[..n]);
+    let n = read_full(rt.stdin(), &mut buffer);
+    show_all(rt.stdout(), &buffer[..n]);
 }

@@ -5,6 +5,7 @@ use base_writing::Put;
 use command_spec::Fixed;
 use resp_encode::reply;
 use resp_spec::Letters;
+use std::io::Stdout;
 
 fn sum(a: Number, b: Number) -> Number {
     let Number::Int(x) = a else {
@@ -75,7 +76,7 @@ fn put_item(kind: u8, out: &mut [u8], text: &[u8]) -> Put {
 }
 
 // The reply into the whole of `out`, and the line's end.
-fn reply_in(out: &mut [u8], bytes: &[u8]) {
+fn reply_in(stdout: Stdout, out: &mut [u8], bytes: &[u8]) {
     let mut put = Put::Wrote(0);
     let mut at = 0;
     let mut turns = bytes.len();
@@ -91,13 +92,13 @@ fn reply_in(out: &mut [u8], bytes: &[u8]) {
         at = one.end;
         turns -= 1;
     }
-    lines::written(out, put)
+    lines::written(stdout, out, put)
 }
 
-pub fn reply(bytes: &[u8]) {
+pub fn reply(stdout: Stdout, bytes: &[u8]) {
     let mut buffer = [0u8; 256];
     if 0 < bytes.len() {
         let spare = 256 - records::wide(bytes[0]);
-        reply_in(&mut buffer[spare..], &bytes[1..]);
+        reply_in(stdout, &mut buffer[spare..], &bytes[1..]);
     }
 }

@@ -5,14 +5,15 @@ ghost use Rattle.std.specs.Prelude.{◌≤◌};
 use crate::lines;
 use resp_parse::request;
 use resp_spec::{Fault, Read, Span};
+use std::io::Stdout;
 
 // The longest argument that is written out; of a longer one the length is.
 const MOST_SHOWN: usize = 64;
 
-fn fault(input: &[u8], fault: Fault) {
+fn fault(stdout: Stdout, input: &[u8], fault: Fault) {
     let mut buffer = [0u8; 256];
     let put = resp_faults::put_fault(&mut buffer, input, fault);
-    lines::written(&buffer, put)
+    lines::written(stdout, &buffer, put)
 }
 
 // The part of argument i, if the table has a place for it.
@@ -26,54 +27,54 @@ fn place(places: &[u64], i: usize) -> Span {
     Span { start: 0, len: 0 }
 }
 
-fn argument(bytes: &[u8]) {
-    lines::byte(b' ');
-    lines::byte(b'[');
+fn argument(stdout: Stdout, bytes: &[u8]) {
+    lines::byte(stdout, b' ');
+    lines::byte(stdout, b'[');
     if bytes.len() <= MOST_SHOWN {
-        lines::escaped(bytes);
+        lines::escaped(stdout, bytes);
     } else {
-        lines::number(bytes.len());
-        lines::text(b" bytes");
+        lines::number(stdout, bytes.len());
+        lines::text(stdout, b" bytes");
     }
-    lines::byte(b']')
+    lines::byte(stdout, b']')
 }
 
-fn arguments(input: &[u8], places: &[u64], n: usize) {
+fn arguments(stdout: Stdout, input: &[u8], places: &[u64], n: usize) {
     let mut i = 0;
     while i < n {
-        argument(resp_faults::part_of(input, place(places, i)));
+        argument(stdout, resp_faults::part_of(input, place(places, i)));
         i += 1;
     }
 }
 
-fn whole(input: &[u8], places: &[u64], n: usize, used: usize) {
-    lines::text(b"whole ");
-    lines::number(n);
-    lines::byte(b' ');
-    lines::number(used);
-    arguments(input, places, n);
-    lines::byte(b'\n')
+fn whole(stdout: Stdout, input: &[u8], places: &[u64], n: usize, used: usize) {
+    lines::text(stdout, b"whole ");
+    lines::number(stdout, n);
+    lines::byte(stdout, b' ');
+    lines::number(stdout, used);
+    arguments(stdout, input, places, n);
+    lines::byte(stdout, b'\n')
 }
 
-fn answer(input: &[u8], places: &[u64], read: Read) {
+fn answer(stdout: Stdout, input: &[u8], places: &[u64], read: Read) {
     match read {
-        Read::Wait => lines::text(b"wait\n"),
-        Read::Faulty(f) => fault(input, f),
-        Read::TooMany => lines::text(b"too many\n"),
-        Read::Whole(n, used) => whole(input, places, n, used),
+        Read::Wait => lines::text(stdout, b"wait\n"),
+        Read::Faulty(f) => fault(stdout, input, f),
+        Read::TooMany => lines::text(stdout, b"too many\n"),
+        Read::Whole(n, used) => whole(stdout, input, places, n, used),
     }
 }
 
-fn reading(input: &[u8], places: &mut [u64]) {
+fn reading(stdout: Stdout, input: &[u8], places: &mut [u64]) {
     let read = request::read(input, places);
-    answer(input, places, read)
+    answer(stdout, input, places, read)
 }
 
 // The answer with places for so many arguments, and the line's end.
-pub fn request(input: &[u8], most: usize)
+pub fn request(stdout: Stdout, input: &[u8], most: usize)
     requires { most ≤ 8 }
 {
     let mut places = [0u64; 16];
     let spare = 16 - 2 * most;
-    reading(input, &mut places[spare..])
+    reading(stdout, input, &mut places[spare..])
 }

@@ -16,8 +16,8 @@ use frames_console::serve::Progress;
 use frames_console::{frame, serve};
 use frames_lines::pieces::Mark;
 use frames_lines::rest;
-use libc::{STDIN_FILENO, STDOUT_FILENO};
 use registry::open;
+use std::io::{Read, Stdin, Stdout};
 
 // The longest line of the form has 8,195 bytes: of a longer one 8,196 are kept at most, and it is answered `?`.
 const LINE: usize = 8196;
@@ -48,8 +48,8 @@ struct Cursor {
     reads: u64,
 }
 
-// Writes the page out where fewer than `need` of its bytes are free.
-fn make_room(page: &[u8; PAGE], filled: usize, need: usize) -> usize
+// Writes the page out where fewer than `need` of its bytes are free; a write that fails is passed over.
+fn make_room(stdout: Stdout, page: &[u8; PAGE], filled: usize, need: usize) -> usize
     requires filled_bound { filled ≤ 131072 }
     requires need_bound { need ≤ 131072 }
     ensures need_bound_2 { result + need ≤ 131072 }
@@ -59,12 +59,13 @@ fn make_room(page: &[u8; PAGE], filled: usize, need: usize) -> usize
         return filled;
     }
     let whole = &page[..];
-    io::write_all(STDOUT_FILENO, &whole[..filled]);
+    let _ = stdout.write_all(&whole[..filled]);
     0
 }
 
 // Serves the requests of a frame, whose bytes end at `to` in the session's part; the page is written out between turns, and has room for the line's end.
 fn serve_turns(
+    stdout: Stdout,
     session: usize,
     to: usize,
     filled: usize,
@@ -96,7 +97,7 @@ fn serve_turns(
         mark: Mark::NoMark,
     };
     while at.full {
-        at.filled = make_room(page, at.filled, 65536);
+        at.filled = make_room(stdout, page, at.filled, 65536);
         at = serve::serve_some(
             session,
             &held[start..end],
@@ -110,12 +111,13 @@ fn serve_turns(
             reply,
         );
     }
-    at.filled = make_room(page, at.filled, 64);
+    at.filled = make_room(stdout, page, at.filled, 64);
     at
 }
 
 // Answers a line.
 fn answer_line(
+    stdout: Stdout,
     line: &[u8],
     filled: usize,
     page: &mut [u8; PAGE],
@@ -138,7 +140,7 @@ fn answer_line(
         Begun::Answered(n) => n,
         Begun::Serve(session, to, n) => {
             let at = serve_turns(
-                session, to, n, held, page, places, words, bytes, swords, sbytes, reply,
+                stdout, session, to, n, held, page, places, words, bytes, swords, sbytes, reply,
             );
             frame::end(page, at, counts, held, session, to)
         }
@@ -185,13 +187,12 @@ fn keep_line(part: &mut [u8; PART], from: usize, got: usize) -> usize
     kept
 }
 
-// Reads behind the first `kept` bytes, and gives how many bytes were read.
-fn read_behind(part: &mut [u8], kept: usize) -> usize
+// Reads behind the first `kept` bytes, and gives how many bytes were read; a read that fails ends the input.
+fn read_behind(mut stdin: Stdin, part: &mut [u8], kept: usize) -> usize
     requires { kept ≤ length part.old }
     ensures { kept + result ≤ length part.new }
 {
-    let read = libc::read(STDIN_FILENO, &mut part[kept..]);
-    io::count(read, &part[kept..])
+    stdin.read(&mut part[kept..]).unwrap_or(0)
 }
 
 // The end of the input ends a line that has bytes.
@@ -222,16 +223,22 @@ fn end_input(part: &mut [u8; PART], kept: usize, filled: usize) -> Cursor
 }
 
 // Writes the page out, and reads on behind what is kept of the line at hand.
-fn read_on(part: &mut [u8; PART], page: &[u8; PAGE], at: Cursor) -> Cursor
+fn read_on(
+    stdin: Stdin,
+    stdout: Stdout,
+    part: &mut [u8; PART],
+    page: &[u8; PAGE],
+    at: Cursor,
+) -> Cursor
     requires within { Within at }
     requires reads_nonzero { 0 < at.reads }
     ensures within_2 { Within result }
     ensures reads_lt_reads { result.reads < at.reads }
     ensures filled_value { result.filled ≡ roomMade 131072 at.filled 131072 }
 {
-    let filled = make_room(page, at.filled, PAGE);
+    let filled = make_room(stdout, page, at.filled, PAGE);
     let kept = keep_line(part, at.from, at.got);
-    let count = read_behind(part, kept);
+    let count = read_behind(stdin, part, kept);
     if count == 0 {
         return end_input(part, kept, filled);
     }
@@ -262,7 +269,13 @@ fn find_end(part: &[u8; PART], at: Cursor) -> Cursor
 }
 
 // Goes on to the end of the line at hand; a line that ends at `got` is none.
-fn next_line(part: &mut [u8; PART], page: &[u8; PAGE], at: Cursor) -> Cursor
+fn next_line(
+    stdin: Stdin,
+    stdout: Stdout,
+    part: &mut [u8; PART],
+    page: &[u8; PAGE],
+    at: Cursor,
+) -> Cursor
     requires { Within at }
     ensures within { Within result }
     ensures result_bound { input_left result ≤ input_left at }
@@ -273,14 +286,14 @@ fn next_line(part: &mut [u8; PART], page: &[u8; PAGE], at: Cursor) -> Cursor
         if next.end < next.got {
             return next;
         }
-        let more = read_on(part, page, next);
+        let more = read_on(stdin, stdout, part, page, next);
         next = find_end(part, more);
     }
     next
 }
 
 // Goes behind the line at hand, which is answered, and makes room for the next one's.
-fn behind(page: &[u8; PAGE], at: Cursor, filled: usize) -> Cursor
+fn behind(stdout: Stdout, page: &[u8; PAGE], at: Cursor, filled: usize) -> Cursor
     requires within { Within at }
     requires end_lt_got { at.end < at.got }
     requires filled_bound { filled ≤ 131072 }
@@ -293,13 +306,15 @@ fn behind(page: &[u8; PAGE], at: Cursor, filled: usize) -> Cursor
         from: start,
         end: start,
         got: at.got,
-        filled: make_room(page, filled, 64),
+        filled: make_room(stdout, page, filled, 64),
         reads: at.reads,
     }
 }
 
 // Answers the lines of the input, and gives the bytes of the page in use; a last line without LF is a line.
 fn answer_all(
+    stdin: Stdin,
+    stdout: Stdout,
     part: &mut [u8; PART],
     page: &mut [u8; PAGE],
     counts: &mut [u64; 16],
@@ -323,12 +338,13 @@ fn answer_all(
         filled: 0,
         reads: 18446744073709551615,
     };
-    let mut at = next_line(part, page, first);
+    let mut at = next_line(stdin, stdout, part, page, first);
     while at.end < at.got {
         let from = at.from;
         let end = at.end;
         let read = &part[..];
         let filled = answer_line(
+            stdout,
             &read[from..end],
             at.filled,
             page,
@@ -341,13 +357,14 @@ fn answer_all(
             sbytes,
             reply,
         );
-        let next = behind(page, at, filled);
-        at = next_line(part, page, next);
+        let next = behind(stdout, page, at, filled);
+        at = next_line(stdin, stdout, part, page, next);
     }
     at.filled
 }
 
-fn main() {
+fn main(rt: HostRuntime) {
+    let stdout = rt.stdout();
     let mut part = [0u8; PART];
     let mut page = [0u8; PAGE];
     let mut counts = [0u64; 16];
@@ -362,6 +379,8 @@ fn main() {
         return;
     }
     let filled = answer_all(
+        rt.stdin(),
+        stdout,
         &mut part,
         &mut page,
         &mut counts,
@@ -373,5 +392,5 @@ fn main() {
         &mut sbytes,
         &mut reply,
     );
-    make_room(&page, filled, PAGE);
+    make_room(stdout, &page, filled, PAGE);
 }

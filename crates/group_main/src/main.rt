@@ -2,8 +2,8 @@
 #![tactic(auto)]
 
 use group_spec::Member;
-use libc::STDOUT_FILENO;
 use registry::{group, open};
+use std::io::Stdout;
 
 // A call with two members.
 fn call_two(
@@ -57,15 +57,11 @@ fn wide(byte: u8) -> u64 {
     byte as u64
 }
 
-// Writes a number, two verdict bytes and a line feed.
-fn show(number: u64, verdicts: &[u8; 2]) {
-    io::write_all(STDOUT_FILENO, b"number ");
-    io::print_decimal(STDOUT_FILENO, number);
-    io::write_all(STDOUT_FILENO, b", verdicts ");
-    io::print_decimal(STDOUT_FILENO, wide(verdicts[0]));
-    io::write_all(STDOUT_FILENO, b" ");
-    io::print_decimal(STDOUT_FILENO, wide(verdicts[1]));
-    io::write_all(STDOUT_FILENO, b"\n");
+// Writes a number, two verdict bytes and a line feed; a write that fails is passed over.
+fn show(stdout: Stdout, number: u64, verdicts: &[u8; 2]) {
+    let one = wide(verdicts[0]);
+    let two = wide(verdicts[1]);
+    let _ = println!(stdout; "number {number}, verdicts {one} {two}");
 }
 
 // A mebibyte of zeros and one more.
@@ -77,7 +73,7 @@ fn zeros() -> [u8; 1048577] {
 const LONG: [u64; 12] = [0, 1048576, 0, 0, 0, 1048577, 0, 0, 0, 1, 0, 0];
 
 // Two members in a store with room for 64 bytes: 6 says that a member was taken.
-fn sizes(first: Member, second: Member, data: &[u8]) {
+fn sizes(stdout: Stdout, first: Member, second: Member, data: &[u8]) {
     let mut words = [0u64; 25];
     let mut bytes = [0u8; 64];
     let mut verdicts = [9u8; 2];
@@ -91,21 +87,21 @@ fn sizes(first: Member, second: Member, data: &[u8]) {
         &mut words,
         &mut bytes,
     );
-    show(number, &verdicts);
+    show(stdout, number, &verdicts);
 }
 
 // Sizes 1,048,576 then 0; 1,048,577 then 0; 1 then 1,048,576.
-fn three_sizes(data: &[u8]) {
-    sizes(writing(0, 1), writing(0, 0), data);
-    sizes(writing(1, 1), writing(0, 0), data);
-    sizes(writing(2, 1), writing(0, 1), data);
+fn three_sizes(stdout: Stdout, data: &[u8]) {
+    sizes(stdout, writing(0, 1), writing(0, 0), data);
+    sizes(stdout, writing(1, 1), writing(0, 0), data);
+    sizes(stdout, writing(2, 1), writing(0, 1), data);
 }
 
 // The parts of the keys a, b and c: a has the value b, the others none.
 const PARTS: [u64; 12] = [0, 1, 1, 2, 1, 1, 0, 0, 2, 1, 0, 0];
 
 // Room for one version: members that write a and b, and c.
-fn room_for_one() {
+fn room_for_one(stdout: Stdout) {
     let mut words = [0u64; 9];
     let mut bytes = [0u8; 64];
     let mut verdicts = [9u8; 2];
@@ -119,11 +115,11 @@ fn room_for_one() {
         &mut words,
         &mut bytes,
     );
-    show(number, &verdicts);
+    show(stdout, number, &verdicts);
 }
 
 // The newest version of a is at 5: a member that read at 5 writes a, another that read at 5 checks it.
-fn read_at_five() {
+fn read_at_five(stdout: Stdout) {
     let mut words = [0u64; 25];
     let mut bytes = [0u8; 64];
     let mut verdicts = [9u8; 2];
@@ -145,11 +141,11 @@ fn read_at_five() {
         &mut words,
         &mut bytes,
     );
-    show(number, &verdicts);
+    show(stdout, number, &verdicts);
 }
 
 // 65 members, and two members with one verdict byte: 8, and no verdict is written.
-fn refused() {
+fn refused(stdout: Stdout) {
     let mut words = [0u64; 25];
     let mut bytes = [0u8; 64];
     let mut verdicts = [9u8; 2];
@@ -165,7 +161,7 @@ fn refused() {
         &mut words,
         &mut bytes,
     );
-    show(number, &verdicts);
+    show(stdout, number, &verdicts);
     let short = call_two(
         [member, member],
         &parts,
@@ -174,13 +170,14 @@ fn refused() {
         &mut words,
         &mut bytes,
     );
-    show(short, &verdicts);
+    show(stdout, short, &verdicts);
 }
 
-fn main() {
+fn main(rt: HostRuntime) {
+    let stdout = rt.stdout();
     let data = zeros();
-    three_sizes(&data);
-    room_for_one();
-    read_at_five();
-    refused();
+    three_sizes(stdout, &data);
+    room_for_one(stdout);
+    read_at_five(stdout);
+    refused(stdout);
 }

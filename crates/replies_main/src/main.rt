@@ -3,69 +3,69 @@
 // `stdout` has the answers that document 02 asks for, from a reader that was written apart from this one.
 #![tactic(auto)]
 
-ghost use Rattle.std.specs.Prelude.{◌≤◌};
+ghost use Rattle.std.specs.Prelude.{◌≤◌, length};
 
-use libc::{STDIN_FILENO, STDOUT_FILENO};
 use reply_item::ReplyRead;
 use reply_reader::table;
+use std::io::{Read, Stdin, Stdout};
 
 // The words of a table with sixteen places.
 const TABLE_WORDS: usize = 64;
 
-fn text(bytes: &[u8]) {
-    io::write_all(STDOUT_FILENO, bytes);
+// A write that fails is passed over.
+fn text(stdout: Stdout, bytes: &[u8]) {
+    let _ = stdout.write_all(bytes);
 }
 
-fn number(n: u64) {
-    text(b" ");
-    io::print_decimal(STDOUT_FILENO, n);
+fn number(stdout: Stdout, n: u64) {
+    let _ = print!(stdout; " {n}");
 }
 
 // All words of the table: the items, and the zeros behind them.
-fn words(table: &[u64]) {
+fn words(stdout: Stdout, table: &[u64]) {
     let mut i = 0;
     while i < table.len() {
-        number(table[i]);
+        number(stdout, table[i]);
         i += 1;
     }
 }
 
-fn answer(read: ReplyRead) {
+fn answer(stdout: Stdout, read: ReplyRead) {
     match read {
-        ReplyRead::Wait => text(b"wait:"),
+        ReplyRead::Wait => text(stdout, b"wait:"),
         ReplyRead::Fault(offset) => {
-            text(b"fault");
-            number(offset as u64);
-            text(b":")
+            text(stdout, b"fault");
+            number(stdout, offset as u64);
+            text(stdout, b":")
         }
         ReplyRead::Returned(returned) => {
-            text(b"number");
-            number(returned);
-            text(b":")
+            text(stdout, b"number");
+            number(stdout, returned);
+            text(stdout, b":")
         }
         ReplyRead::Whole(used, count) => {
-            text(b"whole");
-            number(used as u64);
-            number(count as u64);
-            text(b":")
+            text(stdout, b"whole");
+            number(stdout, used as u64);
+            number(stdout, count as u64);
+            text(stdout, b":")
         }
     }
 }
 
-fn reading(input: &[u8], table: &mut [u64]) {
+fn reading(stdout: Stdout, input: &[u8], table: &mut [u64]) {
     let read = reply_reader::read_reply(input, table);
-    answer(read);
-    words(table);
-    text(b"\n")
+    answer(stdout, read);
+    words(stdout, table);
+    text(stdout, b"\n")
 }
 
 // The answer with places for so many items; the words of the table are not zero before.
-fn show(input: &[u8], places: usize)
+fn show(stdout: Stdout, input: &[u8], places: usize)
     requires { places ≤ 16 }
 {
     let mut table = [9u64; TABLE_WORDS];
     let spare = TABLE_WORDS - table::ITEM_WORDS * places;
-    reading(input, &mut table[spare..])
+    reading(stdout, input, &mut table[spare..])
 }
 
 // A digit as a number of places.
@@ -89,7 +89,7 @@ fn wide(byte: u8) -> usize
 }
 
 // The record at `at`: a digit of places, the length of the bytes in two bytes, and the bytes. The next record starts at the answer.
-fn record_at(input: &[u8], at: usize) -> usize {
+fn record_at(stdout: Stdout, input: &[u8], at: usize) -> usize {
     let len = input.len();
     if len < 3 {
         return at;
@@ -104,16 +104,16 @@ fn record_at(input: &[u8], at: usize) -> usize {
         return at;
     }
     let end = start + size;
-    show(&input[start..end], places);
+    show(stdout, &input[start..end], places);
     end
 }
 
 // All records, one behind the other.
-fn records(input: &[u8]) {
+fn records(stdout: Stdout, input: &[u8]) {
     let mut at = 0;
     let mut turns = input.len();
     while 0 < turns {
-        let next = record_at(input, at);
+        let next = record_at(stdout, input, at);
         if next == at {
             return;
         }
@@ -126,11 +126,26 @@ fn room() -> [u8; 262144] {
     [0u8; 262144]
 }
 
+// Reads until the buffer is full or the input ends, and gives how many bytes were read; a read that fails ends the input.
+fn read_full(mut stdin: Stdin, buffer: &mut [u8]) -> usize
+    ensures { result ≤ length buffer.new }
+{
+    let mut done = 0;
+    while done < buffer.len() {
+        let count = stdin.read(&mut buffer[done..]).unwrap_or(0);
+        if count == 0 {
+            return done;
+        }
+        done += count;
+    }
+    done
+}
+
 // What standard input has.
-fn stored() {
+fn stored(stdin: Stdin, stdout: Stdout) {
     let mut buffer = room();
-    let n = io::read_full(STDIN_FILENO, &mut buffer);
-    records(&buffer[..n]);
+    let n = read_full(stdin, &mut buffer);
+    records(stdout, &buffer[..n]);
 }
 
 fn line() -> [u8; 65538] {
@@ -138,65 +153,76 @@ fn line() -> [u8; 65538] {
 }
 
 // The answer to the first bytes of a long line.
-fn first(bytes: &[u8], there: usize) {
+fn first(stdout: Stdout, bytes: &[u8], there: usize) {
     if there <= bytes.len() {
-        show(&bytes[0..there], 1)
+        show(stdout, &bytes[0..there], 1)
     }
 }
 
 // A line of simple text whose LF stands at `at`.
-fn with_feed(at: usize)
+fn with_feed(stdout: Stdout, at: usize)
     requires { at ≤ 65537 }
 {
     let mut bytes = line();
     bytes[at] = b'\n';
-    first(&bytes, 65538)
+    first(stdout, &bytes, 65538)
 }
 
 // A line without LF, of which so many bytes are there.
-fn without_feed(there: usize) {
+fn without_feed(stdout: Stdout, there: usize) {
     let bytes = line();
-    first(&bytes, there)
+    first(stdout, &bytes, there)
 }
 
-fn main() {
+fn main(rt: HostRuntime) {
+    let stdout = rt.stdout();
     // the RESP2 specification
-    show(b"+OK\r\n", 1);
-    show(b"-Error message\r\n", 1);
+    show(stdout, b"+OK\r\n", 1);
+    show(stdout, b"-Error message\r\n", 1);
     show(
+        stdout,
         b"-WRONGTYPE Operation against a key holding the wrong kind of value\r\n",
         1,
     );
-    show(b":0\r\n", 1);
-    show(b":1000\r\n", 1);
-    show(b"$5\r\nhello\r\n", 1);
-    show(b"$0\r\n\r\n", 1);
-    show(b"$-1\r\n", 1);
-    show(b"*0\r\n", 1);
-    show(b"*2\r\n$5\r\nhello\r\n$5\r\nworld\r\n", 3);
-    show(b"*3\r\n:1\r\n:2\r\n:3\r\n", 4);
-    show(b"*5\r\n:1\r\n:2\r\n:3\r\n:4\r\n$5\r\nhello\r\n", 6);
-    show(b"*-1\r\n", 1);
+    show(stdout, b":0\r\n", 1);
+    show(stdout, b":1000\r\n", 1);
+    show(stdout, b"$5\r\nhello\r\n", 1);
+    show(stdout, b"$0\r\n\r\n", 1);
+    show(stdout, b"$-1\r\n", 1);
+    show(stdout, b"*0\r\n", 1);
+    show(stdout, b"*2\r\n$5\r\nhello\r\n$5\r\nworld\r\n", 3);
+    show(stdout, b"*3\r\n:1\r\n:2\r\n:3\r\n", 4);
+    show(stdout, b"*5\r\n:1\r\n:2\r\n:3\r\n:4\r\n$5\r\nhello\r\n", 6);
+    show(stdout, b"*-1\r\n", 1);
     show(
+        stdout,
         b"*2\r\n*3\r\n:1\r\n:2\r\n:3\r\n*2\r\n+Hello\r\n-World\r\n",
         8,
     );
-    show(b"*3\r\n$5\r\nhello\r\n$-1\r\n$5\r\nworld\r\n", 4);
+    show(stdout, b"*3\r\n$5\r\nhello\r\n$-1\r\n$5\r\nworld\r\n", 4);
     // an LF at offset 65,536 passes, at 65,537 it does not; 65,536 bytes without LF wait, 65,537 do not
-    with_feed(65536);
-    with_feed(65537);
-    without_feed(65536);
-    without_feed(65537);
+    with_feed(stdout, 65536);
+    with_feed(stdout, 65537);
+    without_feed(stdout, 65536);
+    without_feed(stdout, 65537);
     // numbers
-    show(b":-9223372036854775808\r\n", 1);
-    show(b":9223372036854775808\r\n", 1);
-    show(b":-0\r\n", 1);
+    show(stdout, b":-9223372036854775808\r\n", 1);
+    show(stdout, b":9223372036854775808\r\n", 1);
+    show(stdout, b":-0\r\n", 1);
     // order
-    show(b"*1\r\n*1\r\n*1\r\n*1\r\n*1\r\n*1\r\n*1\r\n*1\r\n:5\r\n", 9);
-    show(b"*1\r\n*1\r\n*1\r\n*1\r\n*1\r\n*1\r\n*1\r\n*1\r\n*0\r\n", 8);
-    show(b"*2\r\n:1\r\n:2\r\n", 2);
-    show(b"*2\r\n:1\r\n:2", 2);
-    show(b"*2\r\n:1\r\n$+2\r\nab\r\n", 2);
-    show(b"", 0);
-    stored()
+    show(
+        stdout,
+        b"*1\r\n*1\r\n*1\r\n*1\r\n*1\r\n*1\r\n*1\r\n*1\r\n:5\r\n",
+        9,
+    );
+    show(
+        stdout,
+        b"*1\r\n*1\r\n*1\r\n*1\r\n*1\r\n*1\r\n*1\r\n*1\r\n*0\r\n",
+        8,
+    );
+    show(stdout, b"*2\r\n:1\r\n:2\r\n", 2);
+    show(stdout, b"*2\r\n:1\r\n:2", 2);
+    show(stdout, b"*2\r\n:1\r\n$+2\r\nab\r\n", 2);
+    show(stdout, b"", 0);
+    stored(rt.stdin(), stdout)
 }
