@@ -10,7 +10,7 @@ LOG has what `rt ci`, or `rt must-fail NAME..`, printed; of several lines on one
 - Each edit of crates/*/must-fail has a row in docs/theorems/edits.md, and each row an edit.
 - Each edit is refused, and the first fact that fails is one that its row names: a law, or the contract of a function. `rt` shows that fact alone.
   Refused only for a name that is gone, or only by a limit of the prover, is not enough.
-- Each public function of the crates in LEAVES is a fact of some row.
+- Each public function of the crates in LEAVES is a fact of the row of an edit that was refused so; without a log, of some row.
 """
 
 import glob
@@ -73,23 +73,30 @@ def faults_of_rows(facts, edits):
         yield f"{edit}: no row in docs/theorems/edits.md"
     for edit in sorted(facts.keys() - edits):
         yield f"{edit}: a row, and no edit"
-    named = {fact for row in facts.values() for fact in row}
+    yield from without_edit({fact for row in facts.values() for fact in row})
+
+
+def without_edit(found):
     for crate in LEAVES:
         for function in public_functions(crate):
-            if function not in named | WITHOUT:
+            if function not in found | WITHOUT:
                 yield f"{function}: no edit"
 
 
 def faults_of_log(log, facts, edits):
     tried = {f"{crate}/{label}": (crate, said) for crate, label, said in TRIED.findall(log)}
+    refused = set()
     for edit in sorted(edits & facts.keys()):
         crate, said = tried.get(edit, (None, "not tried"))
         if not said.startswith(REFUSED):
             yield f"{edit}: {said[:200]}"
             continue
         found = fact(crate, said[len(REFUSED) :])
-        if found not in facts[edit]:
+        if found in facts[edit]:
+            refused.update(facts[edit])
+        else:
             yield f"{edit}: refused for {found or said[len(REFUSED) :]}, and its row names {', '.join(facts[edit])}"
+    yield from without_edit(refused)
 
 
 def main():
