@@ -2,7 +2,7 @@
 """Sees that what the documents cite exists: definitions, laws, functions, must-fail edits, requirements, files and lines of files.
 
     check_docs.py            says each citation that has no place; exit status 1 if there is one
-    check_docs.py links      first makes each citation in the documents of LINKED a link
+    check_docs.py links      first makes each citation in the documents of LINKED a link, and gives each cited line its number
 
 The forms are those of docs/THEOREMS.md: `crate:File.name` a definition, `crate!File.name` a law, `crate::module::function` a function or a
 type, `crate/label` a must-fail edit; `path:line` (`text`) a line that holds the text; and REQ 4.3 a requirement. `resp::parse` is the Rust's.
@@ -18,6 +18,7 @@ TOP = os.path.dirname(os.path.dirname(os.path.abspath(__file__)))
 CRATES = {os.path.basename(p) for p in glob.glob(os.path.join(TOP, "crates", "*"))}
 FOLDERS = "crates|station|reference|include|tests|docs|examples"
 REQUIREMENT = r"\bREQ (R?\d+\.\d+)\b"
+LINE = rf"`((?:{FOLDERS})/[^`:\s]+):(\d+)` \(`([^`]+)`"
 LINKS = "<!-- The links, written by `reference/check_docs.py links`. -->"
 
 
@@ -95,9 +96,21 @@ def place_of(document, word):
         return item_place(*word.split("::"))
     if edit and edit[1] in CRATES:
         return edit_place(*edit.groups())
-    if re.fullmatch(rf"(?:{FOLDERS})/[^:*\s]+", word) and not re.search(r"/(?:crate|NAME)/", word):
+    if re.fullmatch(rf"(?:{FOLDERS})/[^:*\s]+", word) and not re.search(r"/(?:crate|NAME|out)(?:/|$)", word):
         return path_place(document, word)
     return ""
+
+
+def numbered(body):
+    """The document in which each cited line has its number: of the lines that hold the text, the one nearest to where it was."""
+
+    def cited(m):
+        lines = (text(m[1]) or "").split("\n")
+        held = [n for n, line in enumerate(lines, 1) if m[3] in line]
+        line = min(held, key=lambda n: abs(n - int(m[2])), default=m[2])
+        return f"`{m[1]}:{line}` (`{m[3]}`"
+
+    return re.sub(LINE, cited, body)
 
 
 def linked(document, body):
@@ -118,7 +131,7 @@ def faults_of(document):
             yield word
     for number in sorted(set(re.findall(REQUIREMENT, body)) - REQUIREMENTS.keys()):
         yield f"REQ {number}"
-    for path, line, held in re.findall(rf"`((?:{FOLDERS})/[^`:\s]+):(\d+)` \(`([^`]+)`", body):
+    for path, line, held in re.findall(LINE, body):
         lines = (text(path) or "").split("\n")
         if len(lines) < int(line) or held not in lines[int(line) - 1]:
             yield f"{path}:{line} ({held})"
@@ -151,10 +164,10 @@ def without_row():
 
 def main():
     if sys.argv[1:] == ["links"]:
-        for document in LINKED:
-            body = linked(document, text(document))
+        for document in DOCUMENTS:
+            body = numbered(text(document))
             with open(os.path.join(TOP, document), "w") as f:
-                f.write(body)
+                f.write(linked(document, body) if document in LINKED else body)
     faults = [(document, fault) for document in sorted(DOCUMENTS) for fault in faults_of(document)]
     faults += [("no row for", fault) for fault in sorted(without_row())]
     for document, fault in faults:

@@ -1,12 +1,16 @@
 #!/usr/bin/env python3
-"""Reads the logs that the gate's must-fail edits left below target/, and sees that each was refused for the fact that it names.
+"""Reads what the gate printed, and sees that each must-fail edit was refused for a fact that its row names.
 
-    check_edits.py           after `bash .ci/run`; says what does not hold; exit status 1 if there is anything
+    rt ci > LOG; check_edits.py LOG     says what does not hold; exit status 1 if there is anything
+    check_edits.py - < LOG              the same
+    check_edits.py                      the rows alone, without a log
+
+LOG has what `rt ci`, or `rt must-fail NAME..`, printed; of several lines on one edit the last counts. An edit that the log does not name was not tried.
 
 - Each edit of crates/*/must-fail has a row in docs/theorems/edits.md, and each row an edit.
-- A fact that the row names fails by itself in the edit's log, and the first error is no missing name.
-  Only the names of a tie and of record fields count as missing; another error of shape is not told apart.
-- Each public function of the crates in LEAVES is the fact of some edit.
+- Each edit is refused, and the first fact that fails is one that its row names: a law, or the contract of a function. `rt` shows that fact alone.
+  Refused only for a name that is gone, or only by a limit of the prover, is not enough.
+- Each public function of the crates in LEAVES is a fact of the row of an edit that was refused so; without a log, of some row.
 """
 
 import glob
@@ -15,8 +19,13 @@ import re
 import sys
 
 TOP = os.path.dirname(os.path.dirname(os.path.abspath(__file__)))
-LEAVES = "key writing number decimal resp utf8 headers bulk parse received replies clean encode items refusal array glob names sessions validity changes queue watch".split()
+LEAVES = (
+    "base_key base_writing base_number base_decimal resp_spec resp_utf8 resp_headers resp_bulk resp_parse reply_item reply_reader resp_sanitize resp_encode "
+    "resp_items resp_faults command_glob command_names session_memory session_validity session_flags session_queue session_watch"
+).split()
 WITHOUT = {"session_flags::unwatch"}  # its only line stands twice in its file, and an edit names a line that stands once
+TRIED = re.compile(r"^rt: must-fail ([a-z_0-9]+)/([\w.-]+)\.edit: (.*)$", re.M)
+REFUSED = "refused, as it must be: "
 
 
 def read(*words):
@@ -32,23 +41,24 @@ def rows():
             yield cells[0].strip("[`]"), re.findall(r"`([a-z_0-9]+(?:!|::)[^`]+)`", cells[2])
 
 
-def log_of(edit):
-    path = os.path.join(TOP, "target", "must-fail", *edit.split("/"), ".log")
-    return read(path) if os.path.isfile(path) else None
+def function_at(crate, path, line):
+    """The function of a source file in which the line stands. An edit puts one line for one, so the numbers are those of the file as it is."""
+    heads = [re.search(r"\bfn (\w+)", text) for text in read("crates", crate, path).split("\n")[:line]]
+    names = [head[1] for head in heads if head]
+    module = os.path.basename(path)[:-3]
+    return "::".join([crate] + ([] if module in ("lib", "main") else [module]) + names[-1:]) if names else None
 
 
-def fails(log, fact):
-    """Whether the fact fails by itself, and not only because a law that it cites or a function that it calls does."""
-    if "!" in fact:
-        file, _, name = fact.split("!")[1].partition(".")
-        return re.search(rf"/proofs/{file}\.antt:\d+:\d+: error: `{re.escape(name)}`: (?!`[^`]*` was not admitted)", log) is not None
-    return re.search(rf"^fn {fact}: (not proved(?!; it calls)|no proof: .* does not close `returns)", log, re.M) is not None
-
-
-def missing(log):
-    """Whether the first error of its own is of a name that is not there."""
-    first = re.search(r": error: (?!`[^`]*`: `[^`]*` was not admitted)(.*)", log)
-    return first is not None and ("that can be named from here" in first[1] or "has no field" in first[1])
+def fact(crate, said):
+    """The fact that failed first: `crate!File.law`, or `crate::module::function` for a goal of its contract or of its safety."""
+    source = re.match(r"(?:note: )?(?:\./)?(src/\S+?\.rt):(\d+):\d+: ", said)
+    if source:
+        return function_at(crate, source[1], int(source[2]))
+    proof = re.match(r"(?:note: )?(?:\./)?proofs/(\S+)\.antt:\d+:\d+: (?:error: )?`([^`]+)`", said)
+    if not proof:
+        return None
+    *folders, file = proof[1].split("/")
+    return "::".join([crate] + [folder.lstrip("+") for folder in folders]) if folders else f"{crate}!{file}.{proof[2]}"
 
 
 def public_functions(crate):
@@ -58,33 +68,44 @@ def public_functions(crate):
             yield "::".join([crate] + ([] if module == "lib" else [module]) + [name])
 
 
-def faults():
-    facts = dict(rows())
-    edits = {"/".join(p.split(os.sep)[-3::2])[:-5] for p in glob.glob(os.path.join(TOP, "crates", "*", "must-fail", "*.edit"))}
+def faults_of_rows(facts, edits):
     for edit in sorted(edits - facts.keys()):
         yield f"{edit}: no row in docs/theorems/edits.md"
     for edit in sorted(facts.keys() - edits):
         yield f"{edit}: a row, and no edit"
-    refused = set()
-    for edit in sorted(edits & facts.keys()):
-        log = log_of(edit)
-        if log is None:
-            yield f"{edit}: no log"
-            continue
-        failed = {fact for fact in facts[edit] if fails(log, fact)}
-        refused |= failed
-        if not failed:
-            yield f"{edit}: none of {', '.join(facts[edit])} fails"
-        if missing(log):
-            yield f"{edit}: the first error is a missing name or need"
+    yield from without_edit({fact for row in facts.values() for fact in row})
+
+
+def without_edit(found):
     for crate in LEAVES:
         for function in public_functions(crate):
-            if function not in refused | WITHOUT:
+            if function not in found | WITHOUT:
                 yield f"{function}: no edit"
 
 
+def faults_of_log(log, facts, edits):
+    tried = {f"{crate}/{label}": (crate, said) for crate, label, said in TRIED.findall(log)}
+    refused = set()
+    for edit in sorted(edits & facts.keys()):
+        crate, said = tried.get(edit, (None, "not tried"))
+        if not said.startswith(REFUSED):
+            yield f"{edit}: {said[:200]}"
+            continue
+        found = fact(crate, said[len(REFUSED) :])
+        if found in facts[edit]:
+            refused.update(facts[edit])
+        else:
+            yield f"{edit}: refused for {found or said[len(REFUSED) :]}, and its row names {', '.join(facts[edit])}"
+    yield from without_edit(refused)
+
+
 def main():
-    found = list(faults())
+    facts = dict(rows())
+    edits = {"/".join(p.split(os.sep)[-3::2])[:-5] for p in glob.glob(os.path.join(TOP, "crates", "*", "must-fail", "*.edit"))}
+    found = list(faults_of_rows(facts, edits))
+    for path in sys.argv[1:]:
+        with sys.stdin if path == "-" else open(path) as f:
+            found += faults_of_log(f.read(), facts, edits)
     for fault in found:
         print(fault)
     print(len(found), "faults")

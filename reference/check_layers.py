@@ -10,7 +10,6 @@ import sys
 TOP = os.path.dirname(os.path.dirname(os.path.abspath(__file__)))
 LAYERS = "base resp reply store group command session exec call registry frames program".split()
 PROGRAMS = "frames examples group_main replies_main".split()
-KIT = "io libc".split()
 
 
 def layer(crate):
@@ -18,12 +17,11 @@ def layer(crate):
 
 
 def uses():
-    """Each crate with one that it uses."""
+    """Each crate with one that it uses. What has no line of its own is the kit's; a static library has the word `staticlib` behind its name."""
     with open(os.path.join(TOP, "crates.txt")) as f:
-        for line in f:
-            crate, colon, below = line.split("#")[0].partition(":")
-            if colon:
-                yield from ((crate.strip(), name) for name in below.split() if name not in KIT)
+        rows = [line.split("#")[0].partition(":") for line in f]
+    crates = {head.split()[0]: below.split() for head, colon, below in rows if colon}
+    return [(crate, name) for crate, below in crates.items() for name in below if name in crates]
 
 
 def main():
