@@ -15,49 +15,48 @@ MOST_VALUE = 4096
 
 HEAD = """// Group calls made out of scripts: the number, the verdicts and the store after each.
 use group_spec::Member;
-use libc::STDOUT_FILENO;
 use registry::group;
 use registry::open;
+use std::io::Stdout;
 
 fn wide(byte: u8) -> u64 {
     byte as u64
 }
 
-fn show(number: u64) {
-    io::print_decimal(STDOUT_FILENO, number);
-    io::write_all(STDOUT_FILENO, b" ");
+fn show(stdout: Stdout, number: u64) {
+    let _ = print!(stdout; "{number} ");
 }
 
-fn end() {
-    io::write_all(STDOUT_FILENO, b"\\n");
+fn end(stdout: Stdout) {
+    let _ = stdout.write_all(b"\\n");
 }
 
-fn show_bytes(bytes: &[u8], count: usize) {
+fn show_bytes(stdout: Stdout, bytes: &[u8], count: usize) {
     let mut i = 0;
     while i < count {
-        show(wide(bytes[i]));
+        show(stdout, wide(bytes[i]));
         i += 1;
     }
-    end();
+    end(stdout);
 }
 
-fn show_call(number: u64, verdicts: &[u8], count: usize) {
-    show(number);
-    show_bytes(verdicts, count);
+fn show_call(stdout: Stdout, number: u64, verdicts: &[u8], count: usize) {
+    show(stdout, number);
+    show_bytes(stdout, verdicts, count);
 }
 
-fn show_words(words: &[u64], count: usize) {
+fn show_words(stdout: Stdout, words: &[u64], count: usize) {
     let mut i = 0;
     while i < count {
-        show(words[i]);
+        show(stdout, words[i]);
         i += 1;
     }
-    end();
+    end(stdout);
 }
 
-fn show_store(words: &[u64], bytes: &[u8]) {
-    show_words(words, 5 + 4 * words[0] as usize);
-    show_bytes(bytes, words[1] as usize);
+fn show_store(stdout: Stdout, words: &[u64], bytes: &[u8]) {
+    show_words(stdout, words, 5 + 4 * words[0] as usize);
+    show_bytes(stdout, bytes, words[1] as usize);
 }
 """
 
@@ -124,7 +123,7 @@ class Call:
             f"        let members = [{', '.join(self.text or [member])}];",
             f"        let parts: [u64; {len(self.parts or [0, 0])}] = [{parts}];",
             f"        let number = group::group(&members[..{count}], &parts, {bytes_text(self.data)}, &mut verdicts[..{count}], &mut words, &mut bytes);",
-            f"        show_call(number, &verdicts, {count});",
+            f"        show_call(stdout, number, &verdicts, {count});",
             "    }",
         ]
 
@@ -132,7 +131,7 @@ class Call:
 def function_of(number, script):
     _, last, versions, size = script[0].split(" ")
     out = [
-        f"fn script_{number}() {{",
+        f"fn script_{number}(stdout: Stdout) {{",
         f"    let mut words = [0u64; {5 + 4 * int(versions)}];",
         f"    let mut bytes = [0u8; {max(1, int(size))}];",
         "    let mut verdicts = [9u8; 80];",
@@ -146,7 +145,7 @@ def function_of(number, script):
             out += Call(members).lines()
             members = []
         else:
-            out.append("    show_store(&words, &bytes);")
+            out.append("    show_store(stdout, &words, &bytes);")
     return out + ["}", ""]
 
 
@@ -155,7 +154,7 @@ def program_of(lines):
     out = [HEAD]
     for number, script in enumerate(scripts):
         out += function_of(number, script)
-    return "\n".join(out + ["fn main() {"] + [f"    script_{number}();" for number in range(len(scripts))] + ["}", ""])
+    return "\n".join(out + ["fn main(rt: HostRuntime) {"] + [f"    script_{number}(rt.stdout());" for number in range(len(scripts))] + ["}", ""])
 
 
 def store_text(words, data):
