@@ -8,7 +8,7 @@ use mathlib.Core.Bool.{Bool, true, false, cond, ◌||◌, false≢true}
 use mathlib.Core.Option.{Option, none, some}
 use mathlib.Core.Path.{◌≡◌, refl, sym, ap, ◌∙◌, subst}
 use lib.Dec.{ltb, eqb}
-use lib.ListN.{get_or, set, length-set}
+use lib.ListN.{get_or, length-set}
 use lib.Seq.{get_or-set_same, get_or-set_other}
 use borrow.Author.Tests.{ltb-true, lt-ltb, eqb-true}
 use Rattle.base_key.specs.Bytes.{Bytes}

@@ -18,7 +18,7 @@ use Rattle.store_memtable.proofs.Sequence.{leave_words_same, leave_bytes_same}
 use Rattle.command_spec.specs.declared.Answer.{Answer}
 use Rattle.command_spec.specs.Names.{Args}
 use Rattle.command_spec.specs.Command.{Listing, lists, DBSIZE, KEYS, SCAN, RANGE, argument, answer_listing}
-use Rattle.command_spec.specs.Session.{Session, says, direct}
+use Rattle.command_spec.specs.Session.{Session, direct}
 use Rattle.command_spec.specs.Finish.{finish, Says, StoreLeft}
 use Rattle.command_answer.specs.Answers.{putAnswer}
 use Rattle.command_answer.proofs.Finish.{finish_wrote, says_wrote, finish_full, full_cleared, says_number}

@@ -27,7 +27,7 @@ use Rattle.group_spec.specs.Group.{plain, conflicts, has_room, has_sequences, ju
 use Rattle.group_spec.proofs.SizeLaws.{left_rest, rest_within, short_above}
 use Rattle.command_spec.specs.declared.Answer.{Answer}
 use Rattle.command_spec.specs.Command.{Effect}
-use Rattle.command_spec.specs.Session.{Session, says, committed}
+use Rattle.command_spec.specs.Session.{Session, committed}
 use Rattle.command_spec.specs.Finish.{silent, finish, finish_by, Says, StoreLeft}
 use Rattle.command_room.specs.Writes.{RoomForAll, verdict_left, verdict_answer}
 use Rattle.command_answer.specs.Answers.{refusal, putAnswer}

@@ -20,7 +20,7 @@ use Rattle.group_spec.specs.declared.Verdict.{Verdict}
 use Rattle.group_spec.specs.declared.Verdict.TheVariants.{Accepted, Conflict, NoRoom, NoSequence, NotTaken}
 use Rattle.group_spec.specs.Group.{plain, any_key, among, verdict_alone}
 use Rattle.group_spec.proofs.GroupLaws.{accepts, plain_verdicts, After}
-use Rattle.command_spec.specs.Names.{Args, row_of, arguments, count_right, with_options, operation_of, may_queue, request_queueable, arity, Control, MULTI, EXEC, DISCARD, WATCH, UNWATCH, QUIT, other, control_of}
+use Rattle.command_spec.specs.Names.{Args, row_of, count_right, with_options, operation_of, may_queue, request_queueable, arity, Control, MULTI, EXEC, DISCARD, WATCH, UNWATCH, QUIT, other, control_of}
 use Rattle.command_spec.specs.Command.{Executed, runs, lists, Effect, Ran, set_options, command_of, run, run_queue}
 use Rattle.command_spec.specs.Session.{Watching, watched_keys, watched_sequences, Session, clear, Result, number, reply, Done, says, returns, committed, direct, add_keys, watch_fits, watching, outside_multi, queue_fits, queued_reply, marked, enqueue, queue_up, not_queueable, Decision, exec_abort, any_moved, verdict_exec, decided, decide, apply, execute, inside_multi, respond_by, respond}
 use Rattle.command_spec.specs.Sessions.{ascending, all_queueable, all_positive, yes?, none_above}

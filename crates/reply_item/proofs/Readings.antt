@@ -1,5 +1,5 @@
 -- Examples of reading a reply, computed from the definitions, as one list with one fact. Assumes nothing.
-use Prim.Native.Nat.{ℕ, zero, suc, ◌+◌, ◌-◌, ◌^◌}
+use Prim.Native.Nat.{ℕ, zero, suc, ◌-◌, ◌^◌}
 use Prim.Native.String.{String}
 use mathlib.Core.Bool.{Bool, true, false, ◌&&◌}
 use mathlib.Core.List.{List, [], ◌∷◌, ◌++◌}

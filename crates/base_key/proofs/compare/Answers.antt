@@ -1,4 +1,3 @@
-use Prim.Native.Nat.{◌-◌}
 use native.Mathlib.Omega.{arith}
 use Rattle.base_key.proofs.Keys.{alike_more, less_here, greater_here, longer, shorter, ended}
 use Rattle.base_key.proofs.compare.Goals as goal

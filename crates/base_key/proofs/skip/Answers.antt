@@ -1,4 +1,3 @@
-use Prim.Native.Nat.{◌-◌}
 use native.Mathlib.Omega.{arith}
 use Rattle.base_key.proofs.Keys.{alike_none}
 use Rattle.base_key.proofs.Blocks.{alike_block}

@@ -1,4 +1,3 @@
-use Prim.Native.Nat.{◌-◌}
 use Rattle.base_key.proofs.Writes.{putting_none, putting_more, putting_all}
 use Rattle.base_writing.proofs.put_at.Goals as goal
 

@@ -1,4 +1,3 @@
-use Prim.Native.Nat.{◌-◌}
 use native.Mathlib.Omega.{arith}
 use Rattle.command_glob.proofs.Globbing.{walking_none, end_fails, end_whole, star_reached, one_short, literal_short, literal_other, one_more, literal_more, stepped_star, stepped_one, stepped_byte, stepped_end}
 use Rattle.command_spec.specs.Glob.{one, literal}

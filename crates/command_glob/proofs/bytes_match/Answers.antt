@@ -1,4 +1,3 @@
-use Prim.Native.Nat.{◌-◌}
 use native.Mathlib.Omega.{arith}
 use Rattle.command_glob.proofs.Ends.{pairing_none, pairing_one, pairing_byte, paired_all, paired_star, paired_room, paired_other}
 use Rattle.command_glob.proofs.Globbing.{stepped_star, stepped_one, stepped_byte, stepped_end}

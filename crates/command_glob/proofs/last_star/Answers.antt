@@ -1,4 +1,3 @@
-use Prim.Native.Nat.{◌-◌}
 use native.Mathlib.Omega.{arith}
 use Rattle.command_glob.proofs.Ends.{seeking_none, seeking_star, seeking_one, seeking_byte, sought}
 use Rattle.command_glob.proofs.Globbing.{stepped_star, stepped_one, stepped_byte, stepped_end}

@@ -1,4 +1,3 @@
-use Prim.Native.Nat.{◌-◌}
 use Rattle.command_glob.proofs.Globbing.{byte_passed_none, byte_passed_more}
 use Rattle.command_glob.proofs.place_of.Goals as goal
 

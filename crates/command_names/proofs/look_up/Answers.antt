@@ -1,4 +1,3 @@
-use Prim.Native.Nat.{◌-◌}
 use Rattle.command_names.proofs.Lookup.{passed_none, passed_more, found_here_lem, fits_here, not_found}
 use Rattle.command_names.proofs.look_up.Goals as goal
 

@@ -1,4 +1,3 @@
-use Prim.Native.Nat.{◌-◌}
 use borrow.Author.Rules.{rules}
 use Rattle.command_names.proofs.Lookup.{other_length, alike_none, alike_more, other_here, both_end}
 use Rattle.command_names.proofs.same.Goals as goal

@@ -1,4 +1,3 @@
-use Prim.Native.Nat.{◌-◌}
 use Rattle.group_spec.proofs.Committed.{committing_none, committing_valid, committing_more, ended_words, ended_bytes, next_in, next_room}
 use Rattle.group_judge.proofs.commit_writes.Goals as goal
 

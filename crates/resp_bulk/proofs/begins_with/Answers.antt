@@ -1,4 +1,3 @@
-use Prim.Native.Nat.{◌-◌}
 use Rattle.resp_bulk.proofs.Arguments.{alike_none, alike_short, alike_other, alike_more, alike_all}
 use Rattle.resp_bulk.proofs.begins_with.Goals as goal
 

@@ -1,4 +1,3 @@
-use Prim.Native.Nat.{◌-◌}
 use Rattle.resp_sanitize.proofs.Letters.{copied_none, copied_more, copied_all, copied_too_long}
 use Rattle.resp_sanitize.proofs.put_clean.Goals as goal
 

@@ -1,4 +1,3 @@
-use Prim.Native.Nat.{◌-◌}
 use native.Mathlib.Omega.{arith}
 use Rattle.resp_utf8.proofs.Pieces.{Sized, whole_sized, broken_sized, rest_not_empty}
 use Rattle.resp_sanitize.proofs.Letters.{shown_none, shown_whole, shown_broken, shown_full, shown_all}

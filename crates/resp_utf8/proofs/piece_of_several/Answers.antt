@@ -1,4 +1,3 @@
-use Prim.Native.Nat.{◌-◌}
 use Rattle.resp_utf8.proofs.Pieces.{piece_cut, piece_low, piece_high, piece_whole, piece_goes_on}
 use Rattle.resp_utf8.proofs.piece_of_several.Goals as goal
 

@@ -1,4 +1,3 @@
-use Prim.Native.Nat.{◌-◌}
 use Rattle.session_memory.proofs.Sums.{summing_none, summing_more, sum_above, summed_all}
 use Rattle.session_memory.proofs.sum_within.Goals as goal
 

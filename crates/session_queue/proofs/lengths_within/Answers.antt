@@ -1,4 +1,3 @@
-use Prim.Native.Nat.{◌-◌}
 use Rattle.session_memory.proofs.Queueing.{adding_none, adding_more, added_above, added_all}
 use Rattle.session_queue.proofs.lengths_within.Goals as goal
 

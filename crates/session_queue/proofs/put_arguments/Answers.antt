@@ -1,4 +1,3 @@
-use Prim.Native.Nat.{◌-◌}
 use native.Mathlib.Omega.{arith}
 use Rattle.session_memory.proofs.Queueing.{storing_none, storing_more, stored_all, next_inside, next_place, put_room}
 use Rattle.session_queue.proofs.put_arguments.Goals as goal

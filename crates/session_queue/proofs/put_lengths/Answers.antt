@@ -1,4 +1,3 @@
-use Prim.Native.Nat.{◌-◌}
 use Rattle.session_memory.proofs.Queueing.{listing_none, listing_more, listed}
 use Rattle.session_queue.proofs.put_lengths.Goals as goal
 

@@ -1,4 +1,3 @@
-use Prim.Native.Nat.{◌-◌}
 use native.Mathlib.Omega.{arith}
 use Rattle.session_validity.proofs.Validity.{naming_none, naming_more, name_room, lengths_room, places_fit, not_queueable_lem, all_queueable_lem}
 use Rattle.session_validity.proofs.commands_queueable.Goals as goal

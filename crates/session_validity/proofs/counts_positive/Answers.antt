@@ -1,4 +1,3 @@
-use Prim.Native.Nat.{◌-◌}
 use Rattle.session_validity.proofs.Validity.{positive_none, positive_more, zero_here, positive_all}
 use Rattle.session_validity.proofs.counts_positive.Goals as goal
 

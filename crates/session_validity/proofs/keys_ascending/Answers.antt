@@ -1,4 +1,3 @@
-use Prim.Native.Nat.{◌-◌}
 use native.Mathlib.Omega.{arith}
 use Rattle.session_validity.proofs.Validity.{no_keys, rising_first, rising_more, not_rising, risen, next_room}
 use Rattle.session_validity.proofs.keys_ascending.Goals as goal

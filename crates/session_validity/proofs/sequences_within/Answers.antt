@@ -1,4 +1,3 @@
-use Prim.Native.Nat.{◌-◌}
 use Rattle.session_validity.proofs.Validity.{within_none, within_more, above_here, within_all}
 use Rattle.session_validity.proofs.sequences_within.Goals as goal
 

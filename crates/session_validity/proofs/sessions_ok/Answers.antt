@@ -1,4 +1,3 @@
-use Prim.Native.Nat.{◌-◌}
 use Rattle.session_validity.proofs.SessionTests.{short_words, short_bytes, checked_none, one_session, checked_more, session_wrong, checked_all}
 use Rattle.session_validity.proofs.sessions_ok.Goals as goal
 

@@ -1,4 +1,3 @@
-use Prim.Native.Nat.{◌-◌}
 use native.Mathlib.Omega.{arith}
 use Rattle.session_memory.proofs.Watching.{growing_none, growing_full, growing_more, grown_all, grown_full, grown_holding, key_inside}
 use Rattle.session_watch.proofs.add_keys.Goals as goal

@@ -1,4 +1,3 @@
-use Prim.Native.Nat.{◌-◌}
 use native.Mathlib.Omega.{arith}
 use Rattle.session_memory.proofs.Watching.{spotting_none, spotting_more, spot_room, spot_less, spot_there, spot_last}
 use Rattle.session_watch.proofs.find_spot.Goals as goal

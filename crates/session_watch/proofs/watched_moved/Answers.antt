@@ -1,6 +1,5 @@
 use Rattle.session_watch.proofs.WatchedKeys.{passing_none, passing_room, passing_more, passing_found, passed_all}
 use native.Mathlib.Omega.{arith}
-use Prim.Native.Nat.{◌-◌}
 use Rattle.session_watch.proofs.watched_moved.Goals as goal
 
 pub loop-i-init : goal.loop-i-init

@@ -1,4 +1,3 @@
-use Prim.Native.Nat.{◌-◌}
 use Rattle.base_number.proofs.Lengths.{digits_begin, digits_none, digit_below, digit_above, tens_over, digit_over, digit_turn, digits_end}
 use Rattle.base_number.proofs.header.digits_value.Goals as goal
 

@@ -2,7 +2,6 @@ use Rattle.resp_encode.proofs.Replies.{listed_length}
 use Rattle.command_listing.proofs.Matching.{writing_none, writing_match, writing_miss, writing_full, writing_over, writing_end}
 use Rattle.store_memtable.proofs.Walk.{found_row, found_below, found_from}
 use native.Mathlib.Omega.{arith}
-use Prim.Native.Nat.{◌-◌}
 use Rattle.command_listing.proofs.keys.put_matches.Goals as goal
 
 pub loop-left-init : goal.loop-left-init

@@ -1,7 +1,6 @@
 use native.Mathlib.Omega.{arith}
 use Rattle.command_listing.proofs.Ranging.{passing_none, passing_more, passing_stop, passing_over, passing_end}
 use Rattle.store_memtable.proofs.Walk.{found_row, found_below}
-use Prim.Native.Nat.{◌-◌}
 use Rattle.command_listing.proofs.range.count_below.Goals as goal
 
 pub loop-count-init : goal.loop-count-init

@@ -1,4 +1,3 @@
-use Prim.Native.Nat.{◌-◌}
 use native.Mathlib.Omega.{arith}
 use Rattle.command_spec.proofs.PlaceLaws.{part_in}
 use Rattle.command_lookup.proofs.Arguments.{counting_none, counting_more, counting_all}

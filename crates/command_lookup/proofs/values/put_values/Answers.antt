@@ -1,4 +1,3 @@
-use Prim.Native.Nat.{◌-◌}
 use native.Mathlib.Omega.{arith}
 use Rattle.resp_encode.proofs.Replies.{listed_length}
 use Rattle.command_spec.proofs.PlaceLaws.{part_in}

@@ -1,4 +1,3 @@
-use Prim.Native.Nat.{◌-◌}
 use Rattle.command_spec.proofs.PlaceLaws.{arguments_count}
 use Rattle.command_meaning.proofs.OptionLaws.{scanning_none, scanning_match, scanning_count, scanning_wrong, scanning_odd, scanning_all}
 use Rattle.command_meaning.proofs.options.scan_options.Goals as goal

@@ -1,4 +1,3 @@
-use Prim.Native.Nat.{◌-◌}
 use Rattle.command_room.proofs.Writes.{setting_none, setting_valid, setting_key, setting_value, setting_room, setting_more, set_words, set_bytes}
 use Rattle.command_room.proofs.commit.commit_pairs.Goals as goal
 

@@ -1,4 +1,3 @@
-use Prim.Native.Nat.{◌-◌}
 use Rattle.command_room.proofs.Writes.{deleting_none, deleting_valid, deleting_argument, deleting_room, deleting_more, deleted_words, deleted_bytes}
 use Rattle.command_room.proofs.commit.commit_tombstones.Goals as goal
 

@@ -1,4 +1,3 @@
-use Prim.Native.Nat.{◌-◌}
 use Rattle.command_room.proofs.Writes.{lasting_none, lasting_more, lasting_short, lasting_all}
 use Rattle.command_room.proofs.room.lengths_left.Goals as goal
 

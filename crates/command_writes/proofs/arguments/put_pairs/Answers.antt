@@ -1,4 +1,3 @@
-use Prim.Native.Nat.{◌-◌}
 use Rattle.command_writes.proofs.ArgumentLaws.{pairs_none, pair_key, pair_value, pair_room, pairs_more, pairs_all}
 use Rattle.command_writes.proofs.arguments.put_pairs.Goals as goal
 

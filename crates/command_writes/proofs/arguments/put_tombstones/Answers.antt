@@ -1,4 +1,3 @@
-use Prim.Native.Nat.{◌-◌}
 use Rattle.command_spec.proofs.PlaceLaws.{part_in}
 use Rattle.command_writes.proofs.ArgumentLaws.{tombstones_none, tombstone_room, tombstones_more, tombstones_all}
 use Rattle.command_writes.proofs.arguments.put_tombstones.Goals as goal

@@ -1,4 +1,3 @@
-use Prim.Native.Nat.{◌-◌}
 use Rattle.command_writes.proofs.Places.{halving_all, halving_row, halving_up, halving_down, halving_done}
 use Rattle.command_writes.proofs.read.place.Goals as goal
 

@@ -1,6 +1,5 @@
 use Rattle.exec_run.proofs.WalkLaws.{walking_none, count_least, may_queue_lem, places_in, few_places, lent_parts, lent_within, rows_room, text_room, walking_more, word_in, walked_all, walking_length}
 use native.Mathlib.Omega.{arith}
-use Prim.Native.Nat.{◌-◌}
 use Rattle.exec_run.proofs.queued.run_queue.Goals as goal
 
 pub word-queued-requires : goal.word-queued-requires

@@ -1,4 +1,3 @@
-use Prim.Native.Nat.{◌-◌}
 use Rattle.frames_lines.proofs.HexLaws.{decoding_none, decoding_more, decodes_odd, decodes_bad, decodes_whole}
 use Rattle.frames_lines.proofs.line.decode.Goals as goal
 

@@ -1,6 +1,6 @@
 use native.Mathlib.Omega.{arith}
 use lib.Seq.{lt-length-set}
-use Prim.Native.Nat.{◌-◌, ◌*◌}
+use Prim.Native.Nat.{◌*◌}
 use Rattle.frames_lines.proofs.AnswerLaws.{hexing_none, hexing_more, hexing_whole, hex_too_long}
 use Rattle.frames_lines.proofs.pieces.put_hex.Goals as goal
 

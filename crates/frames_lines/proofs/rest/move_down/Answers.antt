@@ -1,4 +1,3 @@
-use Prim.Native.Nat.{◌-◌}
 use Rattle.frames_lines.proofs.RestLaws.{moving_none, moving_more, moving_whole}
 use Rattle.frames_lines.proofs.rest.move_down.Goals as goal
 

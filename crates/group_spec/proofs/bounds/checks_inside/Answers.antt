@@ -1,4 +1,3 @@
-use Prim.Native.Nat.{◌-◌}
 use Rattle.group_spec.proofs.PartTests.{check_is}
 use Rattle.group_spec.proofs.Walks.{passing_none, passing_more, passing_broken, passing_all}
 use Rattle.group_spec.proofs.bounds.checks_inside.Goals as goal

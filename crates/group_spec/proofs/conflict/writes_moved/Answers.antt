@@ -1,4 +1,3 @@
-use Prim.Native.Nat.{◌-◌}
 use Rattle.group_spec.proofs.ConflictLaws.{seeking_none, seeking_more, seeking_found, seeking_ended, write_key_in}
 use Rattle.group_spec.proofs.conflict.writes_moved.Goals as goal
 

@@ -1,4 +1,3 @@
-use Prim.Native.Nat.{◌-◌}
 use Rattle.group_spec.proofs.SizeLaws.{leaving_none, leaving_more, leaving_short, leaving_all}
 use Rattle.group_spec.proofs.sizes.writes_left.Goals as goal
 

@@ -1,4 +1,3 @@
-use Prim.Native.Nat.{◌-◌}
 use native.Mathlib.Omega.{arith}
 use Rattle.resp_parse.proofs.Requests.{passed_none, passed_inside, passed_unread, passed_faulty, passed_place, passed_more, passed_all}
 use Rattle.resp_parse.proofs.request.read_arguments.Goals as goal

@@ -1,4 +1,3 @@
-use Prim.Native.Nat.{◌-◌}
 use Rattle.resp_spec.proofs.Words.{words_begin, words_end, words_too_many, words_more, starts_word, word_place, end_inside}
 use Rattle.resp_spec.proofs.inline.read_words.Goals as goal
 

@@ -1,4 +1,3 @@
-use Prim.Native.Nat.{◌-◌}
 use Rattle.resp_spec.proofs.Words.{spelt_first, spelt_more, spelt_up_to, spelt_all}
 use Rattle.resp_spec.proofs.inline.word_end.Goals as goal
 

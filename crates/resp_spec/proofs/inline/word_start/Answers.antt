@@ -1,4 +1,3 @@
-use Prim.Native.Nat.{◌-◌}
 use Rattle.resp_spec.proofs.Words.{skipped_none, skipped_more, skipped_up_to, skipped_all}
 use Rattle.resp_spec.proofs.inline.word_start.Goals as goal
 

@@ -1,4 +1,3 @@
-use Prim.Native.Nat.{◌-◌}
 use Rattle.resp_spec.proofs.Lines.{no_feed_none, no_feed_more, feed_too_far, feed_here, feed_not_yet}
 use Rattle.resp_spec.proofs.line.find_feed.Goals as goal
 

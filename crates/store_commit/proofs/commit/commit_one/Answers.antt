@@ -1,11 +1,9 @@
 -- `store_commit::commit::commit_one` meets its contract. A merge of one write, with the whole store as the front; then the header is renewed. `proofs/Committing.antt` has the laws. Assumes nothing.
 use Prim.Native.Nat.{ℕ, ◌+◌}
 use mathlib.Core.List.{List}
-use mathlib.Core.Option.{Option}
-use mathlib.Core.Path.{◌≡◌, ap, refl}
+use mathlib.Core.Path.{ap, refl}
 use lib.ListN.{length}
 use Rattle.store_memtable.specs.Rows.{value_if}
-use Rattle.store_memtable.specs.Versions.{bytes_of}
 use Rattle.store_memtable.proofs.Committing.{one_mergeable, one_words, one_bytes}
 use Rattle.store_commit.proofs.commit.commit_one.Goals as goal
 

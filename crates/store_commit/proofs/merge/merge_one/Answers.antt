@@ -1,8 +1,5 @@
 -- `store_commit::merge::merge_one` meets its contract. The write goes to its place in the front; its bytes, and then its row, are written in front of what moves. Assumes nothing.
 use Rattle.store_memtable.proofs.Merging.{size_left, size_back, starts_fit_gap, place_below_rows, start_below_used, start_fits, front_after_lem, words_after_lem, bytes_after_lem}
-use Prim.Native.Nat.{ℕ}
-use mathlib.Core.List.{List}
-use mathlib.Core.Option.{Option}
 use native.Mathlib.Omega.{arith}
 use Rattle.store_memtable.specs.Rows.{value_if}
 use Rattle.store_commit.proofs.merge.merge_one.Goals as goal

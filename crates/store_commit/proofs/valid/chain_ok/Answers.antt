@@ -1,4 +1,3 @@
-use Prim.Native.Nat.{◌-◌}
 use Rattle.store_memtable.proofs.Validity.{linked_none, linked_more, linked_broken, linked_all, linked_short}
 use Rattle.store_commit.proofs.valid.chain_ok.Goals as goal
 

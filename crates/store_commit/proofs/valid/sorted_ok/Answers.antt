@@ -1,4 +1,3 @@
-use Prim.Native.Nat.{◌-◌}
 use Rattle.store_memtable.proofs.Validity.{ascending_here, ascending_next, sorted_none, ascending_one, ascending_more, ascending_equal, ascending_greater, ascending_all}
 use Rattle.store_commit.proofs.valid.sorted_ok.Goals as goal
 

@@ -1,4 +1,3 @@
-use Prim.Native.Nat.{◌-◌}
 use Rattle.store_memtable.proofs.Walk.{count_none, count_row, count_row_before, count_live, count_dead, count_all}
 use Rattle.store_memtable.proofs.live.count_live.Goals as goal
 

@@ -1,4 +1,3 @@
-use Prim.Native.Nat.{◌-◌}
 use Rattle.store_memtable.proofs.Walk.{walk_none, walk_row, walk_row_before, walk_more, walk_here, walk_end}
 use Rattle.store_memtable.proofs.live.next_live.Goals as goal
 

@@ -1,4 +1,3 @@
-use Prim.Native.Nat.{◌-◌}
 use Rattle.store_memtable.proofs.Rows.{halving_row, halving_all, halving_up, halving_down, halving_done}
 use Rattle.store_memtable.proofs.read.place_in.Goals as goal
 
