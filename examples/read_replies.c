@@ -1,7 +1,7 @@
 /* Reads replies from stdin as they arrive and prints their items, each on a line, behind the arrays that it stands in. Ends with status 1 at a fault, at
  * arrays that nest too deep, and at an end in the middle of a reply.
  *
- *   cc -std=c99 -I include examples/read_replies.c target/staticlib/libregistry_c.a -o read_replies
+ *   cc -std=c99 -I include examples/read_replies.c crates/registry_c/out/libregistry_c.a -o read_replies
  *   printf 'SET f 402500\r\nMGET f g\r\nQUIT\r\n' | nc 127.0.0.1 6380 | ./read_replies */
 #define _POSIX_C_SOURCE 200112L
 #include "registry.h"

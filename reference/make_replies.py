@@ -92,11 +92,11 @@ def line(data, places):
 
 
 def fixed_lines():
-    """The lines for the replies in `main`: `show(BYTES, PLACES)`, and lines of `+` with an LF at an offset or of so many bytes without one."""
+    """The lines for the replies in `main`: `show(stdout, BYTES, PLACES)`, and lines of `+` with an LF at an offset or of so many bytes without one."""
     with open(os.path.join(CRATE, "src", "main.rt")) as file:
         source = file.read()
-    called = r'show\(\s*(b"(?:[^"\\]|\\.)*"),\s*(\d+),?\s*\)|(with|without)_feed\((\d+)\)'
-    for shown, places, feed, offset in re.findall(called, source[source.index("fn main()") :]):
+    called = r'show\(\s*(?:stdout,\s*)?(b"(?:[^"\\]|\\.)*"),\s*(\d+),?\s*\)|(with|without)_feed\((?:stdout,\s*)?(\d+)\)'
+    for shown, places, feed, offset in re.findall(called, source[source.index("fn main(") :]):
         if shown:
             yield line(ast.literal_eval(shown), int(places))
         elif feed == "with":

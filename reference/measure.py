@@ -3,7 +3,7 @@
 
     measure.py RUST PROGRAM [FIGURES]       FIGURES: a file for the figures, from which plot.py draws
 
-    measure.py rust/frames_rust target/bin/frames figures.json > tables.md
+    measure.py rust/frames_rust ../crates/frames/out/frames figures.json > tables.md
 
 Each input is one file for one process and stays in the domain. Before anything is measured the two outputs are compared, and the script
 stops if they differ. Then the programs run in turn, ROUNDS times each, reading the file and writing to the null device; the least user

@@ -2,17 +2,17 @@
 """Plants single faults in the Rattle sources and asks which of them the comparison sees and which the prover refuses.
 
     plant.py check TREE                     says whether each fault applies at exactly one place
-    plant.py compare TREE RESULTS [N...]    builds each faulty program without proofs and runs it on fixed input
-    plant.py prove TREE RESULTS [N...]      gives each fault to the prover, in a copy of TREE with its target/
+    plant.py compare TREE RESULTS [N...]    runs each faulty program without proofs on fixed input, by `rt try`
+    plant.py prove TREE RESULTS [N...]      gives each fault to the prover as a must-fail edit, in a copy of TREE
     plant.py table RESULTS                  the table, in Markdown
 
-TREE is a repository with crates.txt, crates/ and, for `prove`, a target/ in which the crates are proved. RESULTS is a file to which
-each answer is added, so that a run can be broken off and continued. N are numbers of faults; without any, all are tried.
+TREE is a repository with crates.txt and crates/; `prove` is short where `rt check` has proved its crates on this machine. RESULTS is a file to
+which each answer is added, so that a run can be broken off and continued. N are numbers of faults; without any, all are tried.
 
 The input of the comparison: the files under samples/, the input that make_samples.py makes for frames, every run of `generate.py limits`
-(expected output from the model), generated runs of scale.py (from the Rust), the group scripts under samples/ as a program
-(group_program.py; expected output from the model), and the program group_main with its own expected output. A fault counts as seen if
-an output differs, the program ends in another way than with status 0, or uses ten seconds of the processor.
+(expected output from the model), generated runs of scale.py (from the Rust, up to the line at which a run leaves the domain), the group scripts under
+samples/ as a program (group_program.py; expected output from the model), and the program group_main with its own expected output. A fault counts as seen if
+an output differs, or the program ends in another way than with status 0 or not within ten seconds.
 """
 
 import glob
@@ -20,13 +20,11 @@ import json
 import os
 import random
 import re
-import resource
 import shutil
 import signal
 import subprocess
 import sys
 import tempfile
-import time
 
 import generate
 import group_program
@@ -37,8 +35,9 @@ import scale
 HERE = os.path.dirname(os.path.abspath(__file__))
 RUST = os.path.join(HERE, "rust", "frames_rust")
 GENERATED_RUNS = 12
-RUN_SECONDS = 10  # of the processor, so that a loaded machine makes no fault seen
-BUILD_SECONDS = 1200
+STEPS = 1000  # of the interpreter, whose run does not count: what is compiled with checks does
+RUN_SECONDS = 10
+TRY_SECONDS = 1800
 PROVE_SECONDS = 1800
 
 # The crate is where the file stood; the file is looked for there first and then, by its name, in every crate. What the fault is, the old
@@ -69,7 +68,7 @@ FAULTS = [
     ("store_memtable/live.rt", "the sequence tells a tombstone", "if words[row + 2] == 0 {", "if words[row + 3] == 0 {"),
     ("store_commit/merge.rt", "an empty value is a tombstone", "return read::wide(value.len() + 1);", "return read::wide(value.len());"),
     ("store_commit/open.rt", "a counter's text may not use the last byte", "if left - key_len < value_len {", "if left - key_len <= value_len {"),
-    ("store_commit/valid.rt", "the count of versions is held to the byte limit", "if words[3] < words[0] {", "if words[4] < words[0] {"),
+    ("store_commit/valid.rt", "the count of versions is held to the byte limit", "if words[MOST_VERSIONS] < words[COUNT] {", "if words[MOST_BYTES] < words[COUNT] {"),
     ("group_spec/conflict.rt", "the later of two sequences is the limit", "if a < b {", "if b < a {"),
     ("group_judge/lib.rt", "EXEC may not use the last version", "if read::word(words, 3) - read::word(words, 0) < count {", "if read::word(words, 3) - read::word(words, 0) <= count {"),
     ("group_judge/lib.rt", "6 for a member that finds no sequence", "Verdict::NoSequence => 7,", "Verdict::NoSequence => 6,"),
@@ -78,15 +77,15 @@ FAULTS = [
     ("group_merge/lib.rt", "an EXEC's sequences begin one too low", "top - read::wide(count - j),", "top - read::wide(count - j) - 1,"),
     ("command_glob/lib.rt", "a second star goes back in the pattern", "at += next;", "at = next;"),
     ("command_glob/lib.rt", "a last lone backslash takes the byte behind it", "if next < pattern.len() {", "if next <= pattern.len() {"),
-    ("session_flags/lib.rt", "clearing a session leaves its queue", "words[3] = 0;", "words[2] = 0;"),
-    ("session_queue/lib.rt", "65 commands are queued", "if 64 <= queued {", "if 64 < queued {"),
-    ("session_queue/lib.rt", "the last queued argument is refused", "if 512 - arguments < count {", "if 512 - arguments <= count {"),
+    ("session_flags/lib.rt", "clearing a session leaves its queue", "words[QUEUED] = 0;", "words[WATCHED] = 0;"),
+    ("session_queue/lib.rt", "65 commands are queued", "if MOST_QUEUED <= queued {", "if MOST_QUEUED < queued {"),
+    ("session_queue/lib.rt", "the last queued argument is refused", "if MOST_ARGUMENTS - arguments < count {", "if MOST_ARGUMENTS - arguments <= count {"),
     ("session_watch/lib.rt", "a new key's sequence goes to the first key", "insert_word(seqs, i, count, last);", "insert_word(seqs, 0, count, last);"),
     ("session_watch/lib.rt", "a later WATCH forgets the sequences of earlier keys", "put_words(seqs, 0, &words[36..68]);", ""),
-    ("session_watch/lib.rt", "a watched key is judged by the next one's sequence", "let seq = session_words[36 + i];", "let seq = session_words[37 + i];"),
+    ("session_watch/lib.rt", "a watched key is judged by the next one's sequence", "let seq = session_words[KEY_SEQUENCES + i];", "let seq = session_words[KEY_SEQUENCES + 1 + i];"),
     ("session_watch/lib.rt", "a watched key is read from the first byte on", "if read::moved(words, bytes, &session_bytes[start..end], seq) {", "if read::moved(words, bytes, &session_bytes[..end], seq) {"),
-    ("session_watch/lib.rt", "the last watched byte is refused", "if 2048 - used < len {", "if 2048 - used <= len {"),
-    ("session_validity/lib.rt", "a lent session may watch 33 keys", "if 32 < watched {", "if 33 < watched {"),
+    ("session_watch/lib.rt", "the last watched byte is refused", "if MOST_KEY_BYTES - used < len {", "if MOST_KEY_BYTES - used <= len {"),
+    ("session_validity/lib.rt", "a lent session may watch 33 keys", "if MOST_WATCHED < watched {", "if MOST_WATCHED + 1 < watched {"),
     ("command_names/lib.rt", "a name may be shorter than the command's", "if word.len() != text.len() {", "if text.len() < word.len() {"),
     ("command_errors/lib.rt", "a quoted name is in capitals", "let quoted = resp_sanitize::then_clean_lossy(out, opened, word, Letters::AsSent);", "let quoted = resp_sanitize::then_clean_lossy(out, opened, word, Letters::Capitals);"),
     ("command_writes/read.rt", "a row behind EXEC's own writes is looked at", "if n <= i {", "if n < i {"),
@@ -107,16 +106,16 @@ FAULTS = [
     ("command_room/room.rt", "a write may not use the last byte", "if rest < len {", "if rest <= len {"),
     ("command_direct/run.rt", "the name counts among DEL's writes", "let verdict = room::verdict_for(words, count - 1, left);", "let verdict = room::verdict_for(words, count, left);"),
     ("command_room/commit.rt", "DEL stores the name as value", "commit::commit_one(words, bytes, name, name, false);", "commit::commit_one(words, bytes, name, name, true);"),
-    ("exec_run/transaction.rt", "EXEC reads at the first watched key's sequence", "let seq = words[2];", "let seq = session_words[36];"),
-    ("exec_run/transaction.rt", "a conflict is answered by an empty array", "let put = reply::put_nil_array(out);", "let put = reply::put_head(out, b'*', 0);"),
-    ("exec_finish/lib.rt", "6 for an EXEC that finds no sequence", "return command_answer::refuse(out, 7);", "return command_answer::refuse(out, 6);"),
+    ("exec_run/decide.rt", "EXEC reads at the first watched key's sequence", "let seq = words[LAST];", "let seq = session_words[36];"),
+    ("exec_run/decide.rt", "a conflict is answered by an empty array", "let put = reply::put_nil_array(out);", "let put = reply::put_head(out, b'*', 0);"),
+    ("exec_finish/lib.rt", "6 for an EXEC that finds no sequence", "return halt(7);", "return halt(6);"),
     ("session_route/routes.rt", "UNWATCH inside MULTI is answered at once", "Control::Unwatch => Route::Here(Way::NotQueueable),", "Control::Unwatch => Route::Here(Way::Steer(Step::Unwatch)),"),
     ("session_route/queueing.rt", "a queue that is full leaves the session unmarked", "session_flags::mark_failed(words);", ""),
     ("session_route/watching.rt", "4 for a watch that is full", "Grown::Full => return command_answer::refusal(5),", "Grown::Full => return command_answer::refusal(4),"),
     ("command_direct/listings.rt", "RANGE without LIMIT gives ten pairs", "18446744073709551615,", "10,"),
     ("command_direct/run.rt", "a counter's text has 19 bytes", "let mut text = [0u8; 20];", "let mut text = [0u8; 19];"),
     ("call_serve/respond.rt", "EXEC uses all bytes handed in", "Route::Exec => transaction::exec(swords, sbytes, words, bytes, out, used),", "Route::Exec => transaction::exec(swords, sbytes, words, bytes, out, input.len()),"),
-    ("call_serve/respond.rt", "WATCH takes a sequence one too low", "let last = words[2];", "let last = if words[2] == 0 { 0 } else { words[2] - 1 };"),
+    ("call_serve/respond.rt", "WATCH takes a sequence one too low", "let last = words[LAST];", "let last = if words[LAST] == 0 { 0 } else { words[LAST] - 1 };"),
     ("call_numbers/lib.rt", "there are 17 sessions", "if 15 < session {", "if 16 < session {"),
     ("call_serve/lib.rt", "an empty request uses all bytes", "used: used,", "used: input.len(),"),
     ("call_numbers/lib.rt", "64 members are too many", "if 64 < members {", "if 64 <= members {"),
@@ -162,96 +161,44 @@ def check(tree):
     return 1 if bad else 0
 
 
-# Building without proofs
+# Running without proofs
 
 
-def kit():
-    """The folder of the kit, two above the guide that `rt doc` names."""
-    guide = subprocess.run(["rt", "doc"], stdout=subprocess.PIPE, text=True, check=True).stdout.strip()
-    return os.path.dirname(os.path.dirname(guide))
-
-
-def reached_by(tree, program):
-    """The libraries that a program reaches by crates.txt, each behind those that it names itself."""
+def row_of(tree, crate):
+    """The crates that a crate names in crates.txt."""
     with open(os.path.join(tree, "crates.txt")) as f:
-        rows = dict(line.split(":", 1) for line in f if ":" in line and not line.startswith("#"))
-    order = []
-
-    def reach(name):
-        for below in rows.get(name, "").split():
-            reach(below)
-        if name not in order:
-            order.append(name)
-
-    reach(program)
-    return order[:-1]
+        rows = [line.split("#")[0].partition(":") for line in f]
+    return next(below.split() for head, colon, below in rows if colon and head.split()[0] == crate)
 
 
-class Builder:
-    """Compiles programs of a tree with the kit's own tools and keeps the one linked first, at -O0."""
-
-    def __init__(self, tree, work):
-        self.tree, self.work, self.kit = tree, work, kit()
-        self.cases = glob.glob(os.path.join(self.kit, "on", "*", "bin", "rattle-cases"))[0]
-        tools = os.path.join(os.path.dirname(os.path.dirname(self.cases)), "toolchain", "bin")
-        self.bins = os.path.join(work, "bins")
-        own = os.path.join(work, "toolchain")
-        os.makedirs(os.path.join(own, "bin"))
-        os.symlink(os.path.join(self.kit, "toolchain", "lib"), os.path.join(own, "lib"))
-        for tool in os.listdir(tools):
-            os.symlink(os.path.join(tools, tool), os.path.join(own, "bin", tool))
-        linker = os.path.join(own, "bin", "ld.lld")
-        os.remove(linker)
-        with open(linker, "w") as f:
-            f.write(
-                f'#!/bin/sh\n"{tools}/ld.lld" "$@"; status=$?\nout=; before=\n'
-                'for word in "$@"; do [ "$before" = -o ] && out=$word; before=$word; done\n'
-                f'n=$(ls "{self.bins}" | wc -l); cp "$out" "{self.bins}/part" && mv "{self.bins}/part" "{self.bins}/$n"\nexit $status\n'
-            )
-        os.chmod(linker, 0o755)
-        self.toolchain = own
-        self.libraries = self.kit_libraries()
-
-    def kit_libraries(self):
-        """Copies of the kit's libraries; io's module `number` gets another name, so that a crate may have it."""
-        there = os.path.join(self.work, "libs")
-        shutil.copytree(os.path.join(self.kit, "libs"), there)
-        source = os.path.join(there, "io", "src")
-        os.rename(os.path.join(source, "number.rt"), os.path.join(source, "decimals.rt"))
-        with open(os.path.join(source, "lib.rt")) as f:
-            text = f.read()
-        with open(os.path.join(source, "lib.rt"), "w") as f:
-            f.write(re.sub(r"\bnumber\b(?=;|::)", "decimals", text))
-        return there
-
-    def library(self, name):
-        own = os.path.join(self.tree, "crates", name, "src", "lib.rt")
-        return own if os.path.exists(own) else os.path.join(self.libraries, name, "src", "lib.rt")
-
-    def build(self, program):
-        """The path of the program, or what the compiler said."""
-        shutil.rmtree(self.bins, ignore_errors=True)
-        os.makedirs(self.bins)
-        given = os.path.join(self.work, "stdin")
-        with open(given, "w") as f:
-            f.write("00 50494e470a\n")
-        words = [self.cases, "--toolchain", self.toolchain, "--stdin", given]
-        words += [os.path.join(self.tree, "crates", program, "src", "main.rt"), "--crate-name", program]
-        for name in ["std"] + reached_by(self.tree, program):
-            words += ["--lib", f"{name}={self.library(name)}"]
-        log = os.path.join(self.work, "log")
-        with open(log, "w") as f:
-            running = subprocess.Popen(words, stdout=f, stderr=subprocess.STDOUT, start_new_session=True)
-        made, until = os.path.join(self.bins, "0"), time.time() + BUILD_SECONDS
-        while not os.path.exists(made) and running.poll() is None and time.time() < until:
-            time.sleep(0.1)
-        if running.poll() is None:
+def tried(tree, program, inputs):
+    """Runs a program on some inputs, each bytes and the expected output, or None where all of its output is wanted. Gives for each what it came to, `ended`, or
+    `differs` or how it ended, with the output where it is wanted; or what was said if the program cannot be built."""
+    with tempfile.TemporaryDirectory() as cases:
+        for i, (data, wanted) in enumerate(inputs):
+            for ending, text in (("", data), (".stdout", wanted)):
+                if text is not None:
+                    with open(os.path.join(cases, f"{i:04}{ending}"), "wb") as f:
+                        f.write(text)
+        words = ["rt", "try", "--steps", str(STEPS), "--seconds", str(RUN_SECONDS), "--cases", cases]
+        running = subprocess.Popen(
+            words, cwd=os.path.join(tree, "crates", program), stdout=subprocess.PIPE, stderr=subprocess.STDOUT, start_new_session=True
+        )
+        try:
+            said = running.communicate(timeout=TRY_SECONDS)[0]
+        except subprocess.TimeoutExpired:
             os.killpg(running.pid, signal.SIGKILL)
-            running.wait()
-        if os.path.exists(made):
-            return made, ""
-        with open(log) as f:
-            return None, f.read()[:400]
+            said = running.communicate()[0]
+    ends = [re.search(rb"^(?:== %04d\n((?:.*\n)*?.*?))?case=%04d run=(\S+) status=(\S+)(.*)$" % (i, i), said, re.M) for i in range(len(inputs))]
+    if None in ends:
+        return None, said[:400].decode(errors="replace")
+    return [(came_to(end), end[1]) for end in ends], ""
+
+
+def came_to(end):
+    if end[2] != b"ended" or end[3] != b"0":
+        return f"{end[2].decode()}, status {end[3].decode()}"
+    return "differs" if b"output=differs" in end[4] else "ended"
 
 
 # The comparison
@@ -265,7 +212,7 @@ def frames_inputs():
     """Names, inputs and expected outputs for the program frames."""
     for path in sorted(glob.glob(os.path.join(HERE, "samples", "*.in"))):
         name = os.path.basename(path)[:-3]
-        if not name.startswith(("group", "requests")):
+        if not name.startswith(("group", "previews", "requests")):
             with open(path, "rb") as a, open(path[:-3] + ".out", "rb") as b:
                 yield f"sample {name}", a.read(), b.read()
     told, _ = make_samples.frames_told()
@@ -274,17 +221,11 @@ def frames_inputs():
         data = text_of(lines)
         yield f"limits: {name}", data, model.answer_frames(data)
     for i in range(GENERATED_RUNS):
-        data = text_of(scale.Crowded(random.Random(f"plant {i}")).run())
-        yield f"generated {i}", data, subprocess.run([RUST], input=data, stdout=subprocess.PIPE, check=True).stdout
-
-
-def answers(path, data):
-    """What the program writes, or how it ended."""
-    bound = lambda: resource.setrlimit(resource.RLIMIT_CPU, (RUN_SECONDS, RUN_SECONDS))
-    done = subprocess.run([path], input=data, stdout=subprocess.PIPE, stderr=subprocess.DEVNULL, preexec_fn=bound)
-    if done.returncode in (-signal.SIGXCPU, -signal.SIGKILL):
-        return b"it does not end"
-    return done.stdout if done.returncode == 0 else b"status %d" % done.returncode
+        lines = scale.Crowded(random.Random(f"plant {i}")).run()
+        told = subprocess.run([RUST], input=text_of(lines), stdout=subprocess.PIPE, check=True).stdout.split(b"\n")
+        meant = model.answer_frames(text_of(lines)).split(b"\n")
+        end = next((n for n in range(len(lines)) if told[n] != meant[n]), len(lines))
+        yield f"generated {i}", text_of(lines[:end]), text_of(told[:end])
 
 
 def group_lines():
@@ -303,64 +244,58 @@ def add_group_scripts(tree):
     with open(os.path.join(source, "main.rt"), "w") as f:
         f.write(group_program.program_of(group_lines()))
     with open(os.path.join(tree, "crates.txt"), "a") as f:
-        f.write("group_scripts: " + " ".join(reached_by(tree, "group_main")) + "\n")
+        f.write("group_scripts: " + " ".join(row_of(tree, "group_main")) + "\n")
 
 
-def end_of(got):
-    """How the program ended, if not with status 0."""
-    return f" ({got.decode()})" if got[:6] in (b"status", b"it doe") else ""
+def seen_by_frames(tree, inputs):
+    ends, said = tried(tree, "frames", [(data, wanted) for _, data, wanted in inputs])
+    if ends is None:
+        return f"NOT BUILT: {said}"
+    return next((f"{name} ({came})" if came != "differs" else name for (name, _, _), (came, _) in zip(inputs, ends) if came != "ended"), None)
 
 
-def seen_by_frames(path, inputs):
-    for name, data, wanted in inputs:
-        got = answers(path, data)
-        if got != wanted:
-            return name + end_of(got)
-    return None
-
-
-def seen_by_scripts(path):
-    got, lines = answers(path, b""), group_lines()
+def seen_by_scripts(tree):
+    ends, said = tried(tree, "group_scripts", [(b"", None)])
+    if ends is None:
+        return f"NOT BUILT: {said}"
+    (came, got), lines = ends[0], group_lines()
+    if came != "ended":
+        return f"group scripts ({came})"
     wanted = model.answer_groups(text_of(group_program.usable(lines)))
     try:
         return None if group_program.read_output(got, lines) == wanted else "group scripts"
     except (ValueError, IndexError, StopIteration):
-        return "group scripts" + end_of(got)
+        return "group scripts"
 
 
-def seen_by_group_main(path, tree):
+def seen_by_group_main(tree):
     with open(os.path.join(tree, "crates", "group_main", "stdout"), "rb") as f:
-        got, wanted = answers(path, b""), f.read()
-    return None if got == wanted else "group_main" + end_of(got)
+        ends, said = tried(tree, "group_main", [(b"", f.read())])
+    if ends is None:
+        return f"NOT BUILT: {said}"
+    return None if ends[0][0] == "ended" else "group_main" if ends[0][0] == "differs" else f"group_main ({ends[0][0]})"
 
 
-def seen_by(builder, inputs):
+def seen_by(tree, inputs):
     """How the comparison sees the tree as it stands; None if it does not."""
-    for program, look in (
-        ("frames", lambda path: seen_by_frames(path, inputs)),
-        ("group_scripts", seen_by_scripts),
-        ("group_main", lambda path: seen_by_group_main(path, builder.tree)),
-    ):
-        made, said = builder.build(program)
-        if made is None:
-            return f"NOT BUILT: {said}"
-        found = look(made)
-        if found:
-            return found
-    return None
+    return seen_by_frames(tree, inputs) or seen_by_scripts(tree) or seen_by_group_main(tree)
+
+
+def copy_of(tree, copy):
+    """Copies the crates without their must-fail edits and without what `rt` keeps in them."""
+    left_out = lambda folder, names: [name for name in names if name in ("must-fail", "out") and os.path.basename(os.path.dirname(folder)) == "crates"]
+    shutil.copytree(os.path.join(tree, "crates"), os.path.join(copy, "crates"), ignore=left_out)
+    shutil.copy(os.path.join(tree, "crates.txt"), copy)
 
 
 def compare(tree, numbers, keep):
     work = tempfile.mkdtemp(prefix="plant-")
     copy = os.path.join(work, "tree")
-    os.makedirs(copy)
-    shutil.copytree(os.path.join(tree, "crates"), os.path.join(copy, "crates"))
-    shutil.copy(os.path.join(tree, "crates.txt"), copy)
+    copy_of(tree, copy)
     add_group_scripts(copy)
-    builder = Builder(copy, work)
     print("making the input", flush=True)
     inputs = list(frames_inputs())
-    found = seen_by(builder, inputs)
+    found = seen_by(copy, inputs)
     must(found is None, f"the program without a fault: {found}")
     print(f"{len(inputs)} runs, and none shows a difference without a fault", flush=True)
     for number in numbers:
@@ -373,7 +308,7 @@ def compare(tree, numbers, keep):
             text = f.read()
         with open(path, "w") as f:
             f.write(planted(text, number))
-        found = seen_by(builder, inputs)
+        found = seen_by(copy, inputs)
         with open(path, "w") as f:
             f.write(text)
         keep(number, "compare", f"seen: {found}" if found else "not seen")
@@ -386,7 +321,7 @@ def compare(tree, numbers, keep):
 def prove(tree, numbers, keep):
     work = tempfile.mkdtemp(prefix="plant-")
     copy = os.path.join(work, "tree")
-    shutil.copytree(tree, copy, symlinks=True, ignore=lambda _, names: [n for n in names if n in ("must-fail", ".git")])
+    copy_of(tree, copy)
     for number in numbers:
         place = place_of(copy, number)
         if place is None:
@@ -413,12 +348,10 @@ def prover_says(tree, crate):
         os.killpg(running.pid, signal.SIGKILL)
         running.wait()
         return f"no answer within {PROVE_SECONDS} s"
-    lines = [line for line in said.split("\n") if "must-fail " in line and "fault_" in line]
-    if not lines:
-        return "NO VERDICT: " + said[-300:]
-    if "refused, as it must be" in lines[0]:
-        return "refused " + lines[0][lines[0].index("(") :]
-    return "not refused" if "NOT REFUSED" in lines[0] else "NO VERDICT: " + said[-300:]
+    last = re.findall(r"must-fail \S*/fault_\S+: (.*)", said)[-1:]
+    if last and last[0].startswith("refused, as it must be"):
+        return "refused" + last[0][len("refused, as it must be") :]
+    return "not refused" if last and last[0].startswith("NOT REFUSED") else "NO VERDICT: " + said[-300:]
 
 
 # Results

@@ -5,8 +5,8 @@
 
 Comments, imports, lists of modules and blank lines do not count. Names that a file imports, fields, and what stands behind `::` are compared as they are;
 every other name by the place at which a block first has it, so a copy under other names is found. `Bytes` is taken for a list of numbers.
-The proof of a function (Proof.antt) is a list of needs that the checker prints, mostly answered in one word each, and Opens.antt a list of
-names: both are left out, unless --proofs is given.
+The proof of a function (Invariants.antt and Answers.antt in a folder below proofs/) answers goals that the checker prints, mostly in one word each, and
+Opens.antt is a list of names: both are left out, unless --proofs is given.
 
 A group is the places of one block; the last line counts the lines that a single copy of each block would save.
 """
@@ -18,11 +18,11 @@ import re
 
 TOP = os.path.dirname(os.path.dirname(os.path.abspath(__file__)))
 IMPORT = re.compile(r"\s*(?:ghost |unfoldable )?(?:pub )?(?:use|mod) ")
-NAME = r"[^\W\d][\w·′'-]*"
+NAME = r"[^\W\d][\w'-]*"
 TOKEN = re.compile(NAME + r"|«\w+»|\d+|[^\s\w]")
 KEYWORDS = set(
     "fn pub let mut if else while for in loop match return as const struct enum impl mod true false u8 u64 i64 usize bool "
-    "requires ensures now entry exit module where record unfolding unfoldable abbrev data absurd search omega arith rw simp refl".split()
+    "requires ensures result now old new module where record unfolding unfoldable abbrev data absurd search grind omega arith rw simp refl".split()
 )
 LAW_WORDS = 12
 
@@ -141,10 +141,14 @@ def laws(files, taken):
 
 
 def sources(tree, proofs):
-    left_out = () if proofs else ("Proof.antt", "Opens.antt")
     for folder, _, names in sorted(os.walk(os.path.join(tree, "crates"))):
+        part = os.path.relpath(folder, tree).split(os.sep)[2:]
+        if part[:1] == ["out"]:
+            continue
+        of_function = part[:1] == ["proofs"] and len(part) > 1
         for name in sorted(names):
-            if name.endswith((".rt", ".antt")) and name not in left_out:
+            left_out = not proofs and (of_function or name == "Opens.antt")
+            if name.endswith((".rt", ".antt")) and not left_out:
                 path = os.path.join(folder, name)
                 yield path, os.path.relpath(path, tree)
 

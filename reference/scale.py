@@ -3,7 +3,7 @@
 
     scale.py RUST PROGRAM SEED REQUESTS [SECONDS]
 
-    scale.py rust/frames_rust target/bin/frames 1 1000000
+    scale.py rust/frames_rust ../crates/frames/out/frames 1 1000000
 
 Input is made without the model and stays in the domain (README.md): each run ends before its commands could write 1,024 versions or
 32,768 bytes. A line is left out if it has an EXEC and behind its session's first WATCH in force came a request that may write, or if it has

@@ -1,4 +1,4 @@
-//! Links the static library whose path the variable STATION_LIB holds.
+//! Links the static library whose path the variable STATION_LIB holds: crates/registry_c/out/libregistry_c.a, which `rt lib` writes in crates/registry_c.
 use std::env;
 use std::path::PathBuf;
 

@@ -1,6 +1,7 @@
 #!/usr/bin/env bash
 # run_all.sh LIB [REFERENCE]: builds the station and its tests against the static library LIB and runs them all, each within a
-# bound of seconds. REFERENCE is the folder reference/ of the repository. Ends with status 0 only if everything passed.
+# bound of seconds. LIB is crates/registry_c/out/libregistry_c.a, which `rt lib` writes in crates/registry_c; REFERENCE is the folder reference/
+# of the repository. Ends with status 0 only if everything passed.
 set -u
 HERE=$(cd "$(dirname "$0")" && pwd)
 ROOT=$(dirname "$HERE")
