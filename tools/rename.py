@@ -21,7 +21,7 @@ DECLARED = re.compile(
 # a function's folder, and a step of its proof: they have the function's name
 MODULE = re.compile(r"(\bproofs\.[\w.]*)_lem(?=\.(?:Tie|Statement|Goals|Given)\b)")
 CHAIN = re.compile(r"(?<![\w.])c(?:\.[^\s(){}.;,@\"«»]+)+")
-SNAKE = "/opt/rattle/port/notes/2026-11-18-names-are-in-snake-case/snake.py"
+SNAKE = "port/notes/2026-11-18-names-are-in-snake-case/snake.py"  # below the kit's folder
 
 
 def in_snake_case(name):
@@ -65,7 +65,8 @@ def main():
     with open(rows, "w", encoding="utf-8") as f:
         f.writelines(f"{old}\t{new}\n" for old, new in sorted(turn.items()))
     paths = sorted(os.path.join("crates", c, d) for c in os.listdir("crates") for d in ("specs", "proofs", "src") if os.path.isdir(os.path.join("crates", c, d)))
-    code = subprocess.run([sys.executable, "-B", SNAKE, "--table", rows, *paths]).returncode
+    doc = subprocess.run(["rt", "doc"], capture_output=True, text=True, check=True).stdout.strip()
+    code = subprocess.run([sys.executable, "-B", os.path.join(os.path.dirname(doc), SNAKE), "--table", rows, *paths]).returncode
     for folder in paths:
         for path in (os.path.join(d, f) for d, _, files in os.walk(folder) for f in files if f.endswith(".antt")):
             with open(path, encoding="utf-8") as f:

@@ -174,7 +174,7 @@ module _ (used count : ℕ) (places : List ℕ) (input : Bytes) (w : List ℕ) (
           let g : finish (length out) used (execute (queue_in s sb) (store_in w b) (session_from s sb)) (store_in w b) (session_from s sb) ≡ whole =
           ap (λ (d : Done). finish (length out) used d (store_in w b) (session_from s sb)) (sym (exec_request s sb asked looked e (store_in w b) (ready_held z) f)) in
           subst (λ (d : Served). Left d out w b s sb r out' w' b' s' sb) g
-          (record { says = x.says; store = x.store; session = record { words = x.session; bytes = x.session_bytes_lem } })
+          (record { says = x.says; store = x.store; session = record { words = x.session; bytes = x.session_bytes } })
 
       pub run_left : {w' : List ℕ} {b' : Bytes} → route ≡ Run
           → Answers (executed_of (arguments_at 0 count places input)) used out w b r out' w' b'

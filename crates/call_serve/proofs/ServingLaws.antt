@@ -155,7 +155,7 @@ module _ (input : Bytes) (w : List ℕ) (b : Bytes) (s : List ℕ) (sb out : Byt
       let same : f ≡ g = cc in
       let l' : FaultLeft input g s out r s' out' = subst (λ (x : Fault). FaultLeft input x s out r s' out') same l in
       let m = l'.leaves w b sb h.valid h.cleared (ready_held h) in
-      record { says = m.says; store = m.store; session = record { words = m.session; bytes = m.session_bytes_lem } }
+      record { says = m.says; store = m.store; session = record { words = m.session; bytes = m.session_bytes } }
   fault_by too_many f e l = let z : ◌≡◌ {A = ℕ} 0 1 = cc in absurd (omega arith)
   fault_by (whole ps used) f e l = let z : ◌≡◌ {A = ℕ} 0 1 = cc in absurd (omega arith)
 

@@ -95,7 +95,7 @@ module _ (own : List ℕ) (d : Bytes) (j : ℕ) (l : LiveRow own d j) where
       go (suc y) h = refl
 
   pub row_in : {a x : ℕ} → a ≡ get_or own (4 * j + 2) 0 → x ≡ get_or own (4 * j + 3) 0 → value_inside a x d ≡ true
-  row_in a-is x-is = (λ z. value_inside (a-is z) (x-is z) d) ∙ l.inside.value_in_lem
+  row_in a-is x-is = (λ z. value_inside (a-is z) (x-is z) d) ∙ l.inside.value_in
 
 -- WHAT THE PLACE TELLS
 module _ (own : List ℕ) (d : Bytes) (n : ℕ) (w : List ℕ) (b : Bytes) (s : ℕ) (k : Key) {r : Seen} (p : Sees own d n w b s k r) where

@@ -40,7 +40,7 @@ module _ (p : List ℕ) (d : Bytes) (k : ℕ) {s l : ℕ} (s-is : s ≡ get_or p
 
   module _ (v : ℕ) {a x : ℕ} (a-is : a ≡ get_or p (2 * v) 0) (x-is : x ≡ get_or p (2 * v + 1) 0) where
     pub pair_fits : KeyIn p d (2 * k) → KeyIn p d (2 * v) → RowFits d s l a (x + 1)
-    pair_fits i j = record { key_in = omega (arith, i.key_in); value_in_lem = value_in_data p d v a-is x-is j }
+    pair_fits i j = record { key_in = omega (arith, i.key_in); value_in = value_in_data p d v a-is x-is j }
 
     pub pair_put : {w w' : List ℕ} {n r : ℕ} → OwnPut w w' d n (part s l d) (value_of_word (x + 1) (part a (x + 1 - 1) d)) r
         → OwnPut w w' d n (argument_at k p d) (some (argument_at v p d)) r

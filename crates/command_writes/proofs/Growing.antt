@@ -63,7 +63,7 @@ module _ (w : List ℕ) (d t : Bytes) (j : ℕ) (i : WriteIn w d j) where
   unfolding write_at
   write_append =
       let k = part_append (get_or w (4 * j) 0) (get_or w (4 * j + 1) 0) d t i.key_in in
-      let v = value_append (get_or w (4 * j + 2) 0) (get_or w (4 * j + 3) 0) d t i.value_in_lem in
+      let v = value_append (get_or w (4 * j + 2) 0) (get_or w (4 * j + 3) 0) d t i.value_in in
       λ z. (k z, v z)
 
   row_append : write_inside w (d ++ t) j ≡ true
@@ -71,7 +71,7 @@ module _ (w : List ℕ) (d t : Bytes) (j : ℕ) (i : WriteIn w d j) where
   row_append =
       and_both _ _
       (le-leb (get_or w (4 * j) 0 + get_or w (4 * j + 1) 0) (length (d ++ t)) (rw length-append (omega (arith, i.key_in))))
-      (inside_append (get_or w (4 * j + 2) 0) (get_or w (4 * j + 3) 0) d t i.value_in_lem)
+      (inside_append (get_or w (4 * j + 2) 0) (get_or w (4 * j + 3) 0) d t i.value_in)
 
 module _ {w : List ℕ} {d : Bytes} {n : ℕ} (t : Bytes) (o : Own w d n) where
   pub writes_append : own_writes w (d ++ t) n ≡ own_writes w d n

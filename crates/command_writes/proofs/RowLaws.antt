@@ -117,7 +117,7 @@ module _ (w : List ℕ) (i s k v q : ℕ) (room : 4 * i + 4 ≤ length w) where
       let b : get_or written (4 * i + 1) 0 ≡ k = word_here 1 (omega arith) in
       let c : get_or written (4 * i + 2) 0 ≡ v = word_here 2 (omega arith) in
       let e : get_or written (4 * i + 3) 0 ≡ q = word_here 3 (omega arith) in
-      (λ z. leb (first_here z + b z) (length d) and value_inside (c z) (e z) d) ∙ and_both _ _ (le-leb _ _ f.key_in) f.value_in_lem
+      (λ z. leb (first_here z + b z) (length d) and value_inside (c z) (e z) d) ∙ and_both _ _ (le-leb _ _ f.key_in) f.value_in
 
 -- rows moved up by one
 module _ (w : List ℕ) (from to : ℕ) (h : from ≤ to) (room : 4 * to + 4 ≤ length w) where

@@ -19,7 +19,7 @@ held_at own d n k i = ltb i n and same_key (write_at own d i).0 k
 -- a key and a value that lie in the data
 pub record RowFits (d : Bytes) (keyStart keyLen value_start word : ℕ) : Type 0 where
   pub key_in : keyStart + keyLen ≤ length d
-  pub value_in_lem : value_inside value_start word d ≡ true
+  pub value_in : value_inside value_start word d ≡ true
 
 -- what setting the write of a key leaves, with r rows
 pub record OwnPut (own own' : List ℕ) (d : Bytes) (n : ℕ) (k : Key) (v : Option Value) (r : ℕ) : Type 0 where

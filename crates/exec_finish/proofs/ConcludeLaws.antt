@@ -40,7 +40,7 @@ all_left n out w b s sb {out'} v h z = record {
   says = says_number n (store_in w b) (session_from s sb) out out' z;
   store = record { words = sym (leave_words_same w b v); bytes = sym (leave_bytes_same w b v) };
   session = sym (words_kept h);
-  session_bytes_lem = sym (bytes_kept h);
+  session_bytes = sym (bytes_kept h);
 }
 
 -- WITHOUT WRITES
@@ -53,7 +53,7 @@ module _ {put : Put} (used : ℕ) {s : List ℕ} where
           says = says_wrote x p used (store_in w b) (store_in w b) (session_from s sb) clear e z;
           store = record { words = sym (leave_words_same w b v); bytes = sym (leave_bytes_same w b v) };
           session = l.is sb h;
-          session_bytes_lem = sym (bytes_cleared h);
+          session_bytes = sym (bytes_cleared h);
         });
   }
 
@@ -85,7 +85,7 @@ module _ (ws : List Write) {d : Prepared} (used : ℕ) (w b : List ℕ) {s : Lis
           says = record { answer = ap (λ (k : ℕ). record { number = 0; used = used; reply = k }) m; reply = z };
           store = record { words = w-is ∙ ap (λ (x : List Write). leave_words (commit x (store_in w b)) w) ws-is; bytes = b-is ∙ ap (λ (x : List Write). leave_bytes (commit x (store_in w b)) b) ws-is };
           session = l.is sb h;
-          session_bytes_lem = sym (bytes_cleared h);
+          session_bytes = sym (bytes_cleared h);
         });
   }
 

@@ -17,7 +17,7 @@ pub record Leaves (d : Served) (out : Bytes) (w b s : List ℕ) (sb : Bytes) (r 
   pub says : Says d out r out'
   pub store : StoreLeft d w b w' b'
   pub session : s' ≡ session_words d.session s sb
-  pub session_bytes_lem : sb ≡ session_bytes d.session sb
+  pub session_bytes : sb ≡ session_bytes d.session sb
 
 -- a reply that was put, with the store as it was: the session is cleared, unless the reply does not fit
 pub record Closes (put : Put) (used : ℕ) (s s' : List ℕ) (r : Answer) : Type 0 where

@@ -100,7 +100,7 @@ pub counter_fits : (p : List ℕ) (d : Bytes) (start : ℕ) {a l x : ℕ} → a 
 unfolding value_inside
 counter_fits p d start {a} {l} {x} a-is l-is x-is k h = record {
   key_in = omega (arith, k.key_in);
-  value_in_lem = ap (λ (y : ℕ). value_inside start y d) (add-one x) ∙ le-leb (start + x) (length d) (omega arith);
+  value_in = ap (λ (y : ℕ). value_inside start y d) (add-one x) ∙ le-leb (start + x) (length d) (omega arith);
 }
 
 pub counter_put : (p : List ℕ) (d : Bytes) (start : ℕ) {a l x : ℕ} {own own' : List ℕ} {rows r : ℕ} → a ≡ get_or p 2 0 → l ≡ get_or p 3 0 → x ≡ length d - start

@@ -45,7 +45,7 @@ module _ (start word : ℕ) (d : Bytes) where
 -- the write that `commit_one` is given: its key k, its value word x, and bytes v that are its value's
 module _ (w : List ℕ) (d : Bytes) (j : ℕ) {a x : ℕ} (x-is : x ≡ get_or w (4 * j + 3) 0) (a-is : a ≡ get_or w (4 * j + 2) 0) where
   pub value_given : WriteIn w d j → value_inside a x d ≡ true
-  value_given i = (λ z. value_inside (a-is z) (x-is z) d) ∙ i.value_in_lem
+  value_given i = (λ z. value_inside (a-is z) (x-is z) d) ∙ i.value_in
 
   module _ {k : Bytes} (v : Bytes) (k-is : k ≡ key_part w d (4 * j)) (v-is : v ≡ part a (x - 1) d) where
     given_value : value_if (not (eqb x 0)) v ≡ (write_at w d j).1

@@ -117,7 +117,7 @@ value_long start (suc x) d e = let s : suc x - 1 ≡ x = omega arith in length_p
 
 pub write_in : (w : List ℕ) (d : Bytes) (j : ℕ) → 4 * j + 4 ≤ length w → write_inside w d j ≡ true → WriteIn w d j
 unfolding write_inside
-write_in w d j h e = record { row_in = h; key_in = leb-true _ _ (and_left _ _ e); value_in_lem = and_right _ _ e }
+write_in w d j h e = record { row_in = h; key_in = leb-true _ _ (and_left _ _ e); value_in = and_right _ _ e }
 
 write_size : (w : List ℕ) (d : Bytes) (j : ℕ) → write_inside w d j ≡ true → size_of (write_at w d j).0 (write_at w d j).1 ≡ size_at w j
 unfolding write_inside write_at size_at
@@ -128,7 +128,7 @@ write_size w d j e =
 
 pub write_in_size : (w : List ℕ) (d : Bytes) (j : ℕ) → WriteIn w d j → size_of (write_at w d j).0 (write_at w d j).1 ≡ size_at w j
 unfolding write_inside
-write_in_size w d j i = write_size w d j (and_both _ _ (le-leb _ _ i.key_in) i.value_in_lem)
+write_in_size w d j i = write_size w d j (and_both _ _ (le-leb _ _ i.key_in) i.value_in)
 
 pub writes_size_lem : (w : List ℕ) (d : Bytes) (j n : ℕ) → all_from (write_inside w d) j n ≡ true → writes_size (list_from (write_at w d) j n) ≡ sizes_from w j n
 unfolding writes_size list_from sizes_from all_from

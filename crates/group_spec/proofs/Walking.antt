@@ -102,8 +102,8 @@ module _ {ms : List Member} {began : ℕ} {parts : List ℕ} {d : Bytes} {w₀ b
     store = store_in w₀ b₀;
     written = [];
     settled = [];
-    holds = holds_first w₀ b₀ g.valid_store_lem;
-    marked = subst (λ (n : ℕ). Marked n [] (store_in w₀ b₀)) (sym g.began_is) (marked_first (store_in w₀ b₀) (valid_sound w₀ b₀ g.valid_store_lem.valid));
+    holds = holds_first w₀ b₀ g.valid_store;
+    marked = subst (λ (n : ℕ). Marked n [] (store_in w₀ b₀)) (sym g.began_is) (marked_first (store_in w₀ b₀) (valid_sound w₀ b₀ g.valid_store.valid));
     count = refl;
     rest = refl;
     behind = g.all_inside;
@@ -190,11 +190,11 @@ module _ {ms : List Member} {began : ℕ} {parts : List ℕ} {d : Bytes} {w₀ b
     all_settled =
         ap (λ (l : List Verdict). record { verdicts = l; store = k.store }) (sym (append-nil k.settled))
         ∙ sym (k.rest ∙ ap (onto k.settled) no_more)
-        ∙ walk_group parts d began ms (store_in w₀ b₀) g.all_inside (valid_sound w₀ b₀ g.valid_store_lem.valid) start_last
+        ∙ walk_group parts d began ms (store_in w₀ b₀) g.all_inside (valid_sound w₀ b₀ g.valid_store.valid) start_last
 
     pub walking_end : GroupLeft ms parts d w₀ b₀ v₀ w b v
     walking_end = record {
       words_left = k.holds.words_are ∙ ap (λ (f : Finished). leave_words f.store w₀) all_settled;
-      bytes_left_lem = k.holds.bytes_are ∙ ap (λ (f : Finished). leave_bytes f.store b₀) all_settled;
+      bytes_left = k.holds.bytes_are ∙ ap (λ (f : Finished). leave_bytes f.store b₀) all_settled;
       verdicts_left = k.front ∙ ap (λ (f : Finished). over_front (map verdict_byte f.verdicts) v₀) all_settled;
     }

@@ -30,7 +30,7 @@ check_key w d j = key_part w d (2 * j)
 pub record WriteIn (w : List ℕ) (d : Bytes) (j : ℕ) : Type 0 where
   pub row_in : 4 * j + 4 ≤ length w
   pub key_in : get_or w (4 * j) 0 + get_or w (4 * j + 1) 0 ≤ length d
-  pub value_in_lem : value_inside (get_or w (4 * j + 2) 0) (get_or w (4 * j + 3) 0) d ≡ true
+  pub value_in : value_inside (get_or w (4 * j + 2) 0) (get_or w (4 * j + 3) 0) d ≡ true
 
 -- the key at place `at` lies in the data
 pub record KeyIn (w : List ℕ) (d : Bytes) (at : ℕ) : Type 0 where

@@ -11,7 +11,7 @@ use Rattle.group_spec.specs.Members.{members_inside, pending_of}
 pub record GroupReady (ms : List Member) (began : ℕ) (parts : List ℕ) (d : Bytes) (w : List ℕ) (b v : Bytes) : Type 0 where
   pub verdicts_hold : length ms ≤ length v
   pub all_inside : members_inside parts d ms ≡ true
-  pub valid_store_lem : Valid w b
+  pub valid_store : Valid w b
   pub began_is : began ≡ last_word w
 
 -- the group as lent
@@ -21,5 +21,5 @@ group_of ms parts d w b = group (map (pending_of parts d) ms) (store_in w b)
 -- its verdicts stand in front of the other verdict bytes, and its store is written back
 pub record GroupLeft (ms : List Member) (parts : List ℕ) (d : Bytes) (w : List ℕ) (b v : Bytes) (w' : List ℕ) (b' v' : Bytes) : Type 0 where
   pub words_left : w' ≡ leave_words (group_of ms parts d w b).store w
-  pub bytes_left_lem : b' ≡ leave_bytes (group_of ms parts d w b).store b
+  pub bytes_left : b' ≡ leave_bytes (group_of ms parts d w b).store b
   pub verdicts_left : v' ≡ over_front (map verdict_byte (group_of ms parts d w b).verdicts) v

@@ -56,7 +56,7 @@ module _ (ms : List Member) (parts : List ℕ) (d v : Bytes) (w : List ℕ) (b :
   group_ready e l =
       let p = passed e in
       let q = and_right _ _ p.1 in
-      record { verdicts_hold = leb-true _ _ (and_left _ _ q); all_inside = and_right _ _ q; valid_store_lem = validated w b refl p.0; began_is = l }
+      record { verdicts_hold = leb-true _ _ (and_left _ _ q); all_inside = and_right _ _ q; valid_store = validated w b refl p.0; began_is = l }
 
   pub group_done : {v' w' b' : List ℕ} → n ≡ 0 → GroupLeft ms parts d w b v w' b' v' → GroupPromise ms parts d v w b n v' w' b'
   unfolding verdict_buffer
@@ -67,7 +67,7 @@ module _ (ms : List Member) (parts : List ℕ) (d v : Bytes) (w : List ℕ) (b :
         number = e ∙ ap (λ (s : StoreCalled). s.outcome.number) c;
         verdicts = g.verdicts_left ∙ ap (λ (s : StoreCalled). over_front s.outcome.verdicts v) c;
         words = g.words_left ∙ ap (λ (s : StoreCalled). s.words) c;
-        bytes = g.bytes_left_lem ∙ ap (λ (s : StoreCalled). s.bytes) c;
+        bytes = g.bytes_left ∙ ap (λ (s : StoreCalled). s.bytes) c;
       }
 
   -- 8 and 9 leave all

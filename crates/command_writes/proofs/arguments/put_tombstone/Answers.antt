@@ -4,7 +4,7 @@ use native.Mathlib.Omega.{arith}
 use Rattle.command_writes.proofs.arguments.put_tombstone.Goals as goal
 
 pub put-requires-clause-row_fits : goal.put-requires-clause-row_fits
-put-requires-clause-row_fits c = record { key_in = omega arith; value_in_lem = search tombstone_in }
+put-requires-clause-row_fits c = record { key_in = omega arith; value_in = search tombstone_in }
 
 pub returns : goal.returns
 returns c = search tombstone_put
