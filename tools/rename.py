@@ -13,6 +13,7 @@ import re
 import subprocess
 import sys
 
+OF_A_FUNCTION = ("Proof.antt", "Answers.antt", "Invariants.antt")  # below proofs/: what is declared there is the function's own
 KIT_NAMES = {"and-false", "map-append", "not-false"}  # the kit's own names too: they stay
 DECLARED = re.compile(
     r"(?m)^ *(?:(?:pub|abbrev|unfoldable|irreducible|data|record|mutual|ghost|opaque) )*"
@@ -34,7 +35,7 @@ def declared(root):
     for folder, dirs, files in os.walk(os.path.join(root, "crates")):
         dirs[:] = sorted(d for d in dirs if d != "out")
         for f in sorted(files):
-            if f.endswith(".antt") and f not in ("Proof.antt", "Answers.antt", "Invariants.antt"):
+            if f.endswith(".antt") and (f not in OF_A_FUNCTION or os.path.basename(folder) == "specs" or folder.endswith("/proofs")):
                 with open(os.path.join(folder, f), encoding="utf-8") as it:
                     text = re.sub(r"--.*", "", it.read())
                 kind = "specs" if "/specs" in folder else "proofs"

@@ -9,6 +9,6 @@ abbrev pub refusal : ℕ → Answer
 refusal n = record { number = n; used = 0; reply = 0 }
 
 -- a reply that was put: its answer, or 3
-unfoldable pub putAnswer : Put → ℕ → Answer
-putAnswer (Wrote n) used = record { number = 0; used = used; reply = n }
-putAnswer Full used = refusal 3
+unfoldable pub put_answer : Put → ℕ → Answer
+put_answer (Wrote n) used = record { number = 0; used = used; reply = n }
+put_answer Full used = refusal 3

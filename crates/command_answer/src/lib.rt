@@ -2,7 +2,7 @@
 #![tactic(auto)]
 
 ghost use Rattle.std.specs.Prelude.{◌≡◌, length, replicate};
-ghost use Rattle.command_answer.specs.Answers.{refusal, putAnswer};
+ghost use Rattle.command_answer.specs.Answers.{refusal, put_answer};
 
 use base_writing::Put;
 use command_spec::Answer;
@@ -20,7 +20,7 @@ pub fn refusal(number: u64) -> Answer
 
 // The answer to a request whose reply was put: 3 where it does not fit.
 pub fn put_answer(put: Put, used: usize) -> Answer
-    ensures { result ≡ putAnswer put used }
+    ensures { result ≡ put_answer put used }
 {
     let Put::Wrote(n) = put else {
         return refusal(3);

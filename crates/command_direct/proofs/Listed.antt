@@ -20,7 +20,7 @@ use Rattle.command_spec.specs.Names.{Args}
 use Rattle.command_spec.specs.Command.{Listing, lists, DBSIZE, KEYS, SCAN, RANGE, argument, answer_listing}
 use Rattle.command_spec.specs.Session.{Session, direct}
 use Rattle.command_spec.specs.Finish.{finish, Says, StoreLeft}
-use Rattle.command_answer.specs.Answers.{putAnswer}
+use Rattle.command_answer.specs.Answers.{put_answer}
 use Rattle.command_answer.proofs.Finish.{finish_wrote, says_wrote, finish_full, full_cleared, says_number}
 use Rattle.command_listing.proofs.Ranging.{range_unlimited}
 use Rattle.command_meaning.specs.declared.Listing.{Listing as CodeListing}
@@ -108,8 +108,8 @@ module _ (w b : List ℕ) {out out' : Bytes} {put : Put} where
 
 -- THE CALL: a reply that leaves the store
 pub lists_answer : (l : Listing) (w b : List ℕ) (used : ℕ) {out out' : Bytes} {put : Put} {r : Answer} → Valid w b → out ≡ replicate (length out) 0
-    → Puts (encode (answer_listing (table (versions_in w b)) l)) out put out' → r ≡ putAnswer put used → Answers (lists l) used out w b r out' w b
-unfolding direct store_in putAnswer
+    → Puts (encode (answer_listing (table (versions_in w b)) l)) out put out' → r ≡ put_answer put used → Answers (lists l) used out w b r out' w b
+unfolding direct store_in put_answer
 lists_answer l w b used {out} {out'} {put} {r} v c p r-is = record { says = λ s. (go put refl s r-is).0; left = λ s. (go put refl s r-is).1 }
   where
     Both : Session → Type 0
@@ -117,7 +117,7 @@ lists_answer l w b used {out} {out'} {put} {r} v c p r-is = record { says = λ s
         Says (finish (length out) used (direct (lists l) (store_in w b) s) (store_in w b) s) out r out'
         × StoreLeft (finish (length out) used (direct (lists l) (store_in w b) s) (store_in w b) s) w b w b
 
-    go : (q : Put) → put ≡ q → (s : Session) → r ≡ putAnswer q used → Both s
+    go : (q : Put) → put ≡ q → (s : Session) → r ≡ put_answer q used → Both s
     go (Wrote k) q-is s a =
         rw (finish_wrote (answer_listing (table (versions_in w b)) l) p used (store_in w b) (store_in w b) s s q-is, a)
         (says_wrote (answer_listing (table (versions_in w b)) l) p used (store_in w b) (store_in w b) s s q-is c, record { words = sym (leave_words_same w b v); bytes = sym (leave_bytes_same w b v) })

@@ -30,7 +30,7 @@ use Rattle.command_spec.specs.Command.{Effect}
 use Rattle.command_spec.specs.Session.{Session, committed}
 use Rattle.command_spec.specs.Finish.{silent, finish, finish_by, Says, StoreLeft}
 use Rattle.command_room.specs.Writes.{RoomForAll, verdict_left, verdict_answer}
-use Rattle.command_answer.specs.Answers.{refusal, putAnswer}
+use Rattle.command_answer.specs.Answers.{refusal, put_answer}
 use Rattle.command_room.specs.Served.{buffer_after, effect_served, Runs}
 use Rattle.command_answer.proofs.Finish.{Cleared, finish_wrote, says_wrote, finish_full, full_cleared, says_number}
 
@@ -118,7 +118,7 @@ module _ (e : Effect) (w b : List ℕ) (used : ℕ) {out mid : Bytes} {put : Put
   -- number 0: the writes are accepted, the reply fits, and the writes are committed
   pub runs_written : {r : Answer} {out' w' b' : List ℕ} → Cleared out → r ≡ verdict_answer v put used → r.number ≡ 0 → out' ≡ buffer_after v mid
       → w' ≡ leave_words (commit e.1 (store_in w b)) w → b' ≡ leave_bytes (commit e.1 (store_in w b)) b → Runs e used out w b r out' w' b'
-  unfolding verdict_answer putAnswer buffer_after
+  unfolding verdict_answer put_answer buffer_after
   runs_written {r} {out'} {w'} {b'} cleared r-is zero o_is w-is b-is = runs_by (λ s. go v refl put refl s r-is (ap (λ (x : Answer). x.number) (sym r-is) ∙ zero) o_is)
     where
       Both : Session → Type 0
@@ -138,7 +138,7 @@ module _ (e : Effect) (w b : List ℕ) (used : ℕ) {out mid : Bytes} {put : Put
   -- any other number leaves all
   pub runs_refused : {r : Answer} {out' : List ℕ} → Valid w b → r ≡ verdict_answer v put used → (r.number ≡ 0 → ⊥) → out' ≡ buffer_after v mid
       → Runs e used out w b r out' w b
-  unfolding verdict_answer putAnswer buffer_after
+  unfolding verdict_answer put_answer buffer_after
   runs_refused {r} {out'} val r-is some o_is = runs_by (λ s. go v refl put refl s r-is o_is)
     where
       Both : Session → Type 0
@@ -200,7 +200,7 @@ module _ (put : Put) (used : ℕ) (mid : Bytes) (v : Verdict) {n : ℕ} (n-is : 
       go NoSequence z = absurd (omega arith)
       go NotTaken z = absurd (omega arith)
 
-  pub answer_put : {r : Answer} → n ≡ 0 → r ≡ putAnswer put used → r ≡ verdict_answer v put used
+  pub answer_put : {r : Answer} → n ≡ 0 → r ≡ put_answer put used → r ≡ verdict_answer v put used
   unfolding verdict_answer
   answer_put e r-is = r-is ∙ rw (accepted_is e)
 
@@ -217,17 +217,17 @@ nothing_accepted w b v h =
     sym (rw (c, l)) ∙ verdict_is w b v [] {n = 0} {l = Rest (most_bytes_word w - used_word w - 0)} refl (sym (left_rest (most_bytes_word w - used_word w) 0 (omega arith)))
 
 pub runs_quiet : (p : Reply) (w b : List ℕ) (used : ℕ) {out out' : Bytes} {put : Put} {r : Answer} → Valid w b → last_word w < 2 ^ 64 → Cleared out
-    → Puts (encode p) out put out' → r ≡ putAnswer put used → Runs (p, []) used out w b r out' w b
-unfolding verdict_answer buffer_after putAnswer commit
+    → Puts (encode p) out put out' → r ≡ put_answer put used → Runs (p, []) used out w b r out' w b
+unfolding verdict_answer buffer_after put_answer commit
 runs_quiet p w b used {out} {out'} {put} {r} val h cleared puts r-is = go put refl r-is
   where
-    number_wrote : {k : ℕ} → r ≡ putAnswer (Wrote k) used → r.number ≡ 0
+    number_wrote : {k : ℕ} → r ≡ put_answer (Wrote k) used → r.number ≡ 0
     number_wrote a = ap (λ (x : Answer). x.number) a
 
-    number_full : r ≡ putAnswer Full used → r.number ≡ 3
+    number_full : r ≡ put_answer Full used → r.number ≡ 3
     number_full a = ap (λ (x : Answer). x.number) a
 
-    go : (q : Put) → put ≡ q → r ≡ putAnswer q used → Runs (p, []) used out w b r out' w b
+    go : (q : Put) → put ≡ q → r ≡ put_answer q used → Runs (p, []) used out w b r out' w b
     go (Wrote k) e a =
         runs_written (p, []) w b used puts (nothing_accepted w b val h) cleared r-is (number_wrote a) refl
         (sym (leave_words_same w b val)) (sym (leave_bytes_same w b val))

@@ -10,7 +10,7 @@ use Rattle.group_spec.specs.declared.Verdict.{Verdict}
 use Rattle.group_spec.specs.declared.Verdict.TheVariants.{Accepted, NoRoom, NoSequence}
 use Rattle.group_spec.specs.Group.{verdict_byte, is_accepted}
 use Rattle.command_spec.specs.declared.Answer.{Answer}
-use Rattle.command_answer.specs.Answers.{refusal, putAnswer}
+use Rattle.command_answer.specs.Answers.{refusal, put_answer}
 
 -- room for these writes, and sequences
 pub record RoomForAll (w : List ℕ) (ws : List Write) : Type 0 where
@@ -31,4 +31,4 @@ verdict_left w writes Short = NoRoom
 
 -- 6 and 7 come before 3
 unfoldable pub verdict_answer : Verdict → Put → ℕ → Answer
-verdict_answer v put used = cond (is_accepted v) (putAnswer put used) (refusal (verdict_byte v))
+verdict_answer v put used = cond (is_accepted v) (put_answer put used) (refusal (verdict_byte v))

@@ -9,7 +9,7 @@ use Rattle.call_spec.specs.Calls.{lent_of, OpenPromise}
 use Rattle.call_spec.specs.Frames.{open_console}
 use Rattle.call_spec.proofs.MadeLaws.{made}
 use Rattle.frames_lines.proofs.OpenLaws.{opened_state, rests_none}
-use Rattle.frames_console.specs.Answers.{consoleIn}
+use Rattle.frames_console.specs.Answers.{console_in}
 use Rattle.frames_console.specs.Steps.{Fit}
 
 fit_beside : (n m k : ℕ) {last versions size r : ℕ} {w w' : List ℕ} {b b' : Bytes} → 16 * 644 ≤ n → 16 * 10240 ≤ m → r ≡ 0 → OpenPromise last versions size w b r w' b'
@@ -27,12 +27,12 @@ pub opened_fit : {last versions size r : ℕ} {w w' : List ℕ} {b b' : Bytes} �
 opened_fit = fit_beside 10304 163840 32768 (omega arith) (omega arith)
 
 console_beside : (n m : ℕ) (held : Bytes) {r : ℕ} {w w' : List ℕ} {b b' : Bytes} → 16 * 644 ≤ n → 16 * 10240 ≤ m → r ≡ 0 → OpenPromise 0 1024 32768 w b r w' b'
-    → consoleIn (lent_of w' b' (replicate n 0) (replicate m 0)) (replicate 16 0) held ≡ open_console
-unfolding consoleIn open_console
+    → console_in (lent_of w' b' (replicate n 0) (replicate m 0)) (replicate 16 0) held ≡ open_console
+unfolding console_in open_console
 console_beside n m held words bytes e p =
     let long : length {A = ℕ} (replicate m 0) ≡ m = length-replicate {A = ℕ} m 0 in
     λ z. record { state = opened_state e p n (replicate m 0) words (omega (arith, bytes, long)) z; rests = rests_none 16 held z }
 
 pub opened_console : (k : ℕ) {r : ℕ} {w w' : List ℕ} {b b' : Bytes} → r ≡ 0 → OpenPromise 0 1024 32768 w b r w' b'
-    → consoleIn (lent_of w' b' (replicate 10304 0) (replicate 163840 0)) (replicate 16 0) (replicate k 0) ≡ open_console
+    → console_in (lent_of w' b' (replicate 10304 0) (replicate 163840 0)) (replicate 16 0) (replicate k 0) ≡ open_console
 opened_console k = console_beside 10304 163840 (replicate k 0) (omega arith) (omega arith)

@@ -15,7 +15,7 @@ use Rattle.frames_console.specs.declared.serve.Progress.{Progress}
 use Rattle.frames_lines.specs.declared.pieces.Mark.TheVariants.{NoMark}
 use Rattle.frames_lines.specs.Pieces.{MarkFits}
 use Rattle.frames_console.specs.Steps.{Fit, Reached, SomeServed}
-use Rattle.frames_console.specs.Answers.{roomMade}
+use Rattle.frames_console.specs.Answers.{room_made}
 use Rattle.frames_console.specs.declared.frame.Begun.{Begun}
 use Rattle.frames_console.specs.declared.frame.Begun.TheVariants.{Answered, Serve}
 use Rattle.frames_lines.specs.Held.{count_at}
@@ -27,12 +27,12 @@ use Rattle.frames.specs.Bounds.{Served}
 
 -- ROOM ON THE PAGE, by the test
 module _ (size filled need : ℕ) where
-  pub room_kept : need ≤ size - filled → filled ≡ roomMade size filled need
-  unfolding roomMade
+  pub room_kept : need ≤ size - filled → filled ≡ room_made size filled need
+  unfolding room_made
   room_kept h = rw (le-leb need (size - filled) h)
 
-  pub room_written : size - filled < need → 0 ≡ roomMade size filled need
-  unfolding roomMade
+  pub room_written : size - filled < need → 0 ≡ room_made size filled need
+  unfolding room_made
   room_written h = rw (lt-leb need (size - filled) h)
 
 -- in front of a turn: what is within its buffers
@@ -86,7 +86,7 @@ module _ {session to filled start end room : ℕ} {at r : Progress} {page page�
       go true y = omega (arith, y.ahead, p.within, frame_length)
       go false y = omega arith
 
-  pub turn_again : {reply' : Bytes} → room ≡ roomMade 131072 at.filled 65536 → length page₁ ≡ 131072 → Fit l₂ reply' → InLoop session to filled start end held page l r page₂ l₂ reply'
+  pub turn_again : {reply' : Bytes} → room ≡ room_made 131072 at.filled 65536 → length page₁ ≡ 131072 → Fit l₂ reply' → InLoop session to filled start end held page l r page₂ l₂ reply'
   turn_again e whole fit = record {
     bounds = record {
       below = b.below;

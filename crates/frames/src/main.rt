@@ -6,7 +6,7 @@ ghost use Rattle.base_key.specs.Bytes.{part};
 ghost use Rattle.call_spec.specs.Calls.{lent_of};
 ghost use Rattle.call_spec.specs.Frames.{open_console};
 ghost use Rattle.frames_lines.specs.Rest.{moved};
-ghost use Rattle.frames_console.specs.Answers.{AllAnswered, LineAnswered, Output, TurnsServed, consoleIn, roomMade};
+ghost use Rattle.frames_console.specs.Answers.{AllAnswered, LineAnswered, Output, TurnsServed, console_in, room_made};
 ghost use Rattle.frames_console.specs.Steps.{Fit};
 ghost use Rattle.frames.specs.Bounds.{Served};
 ghost use Rattle.frames.specs.Input.{Within, input_left, line_length};
@@ -53,7 +53,7 @@ fn make_room(stdout: Stdout, page: &[u8; PAGE], filled: usize, need: usize) -> u
     requires filled_bound { filled ≤ 131072 }
     requires need_bound { need ≤ 131072 }
     ensures need_bound_2 { result + need ≤ 131072 }
-    ensures value { result ≡ roomMade 131072 filled need }
+    ensures value { result ≡ room_made 131072 filled need }
 {
     if need <= PAGE - filled {
         return filled;
@@ -134,7 +134,7 @@ fn answer_line(
     requires fit { Fit (lent_of words.old bytes.old swords.old sbytes.old) reply.old }
     ensures fit_2 { Fit (lent_of words.new bytes.new swords.new sbytes.new) reply.new }
     ensures upper_bound { result ≤ 131072 }
-    ensures line_answered { LineAnswered line.now (consoleIn (lent_of words.old bytes.old swords.old sbytes.old) counts.old held.old) filled page.old (consoleIn (lent_of words.new bytes.new swords.new sbytes.new) counts.new held.new) result page.new }
+    ensures line_answered { LineAnswered line.now (console_in (lent_of words.old bytes.old swords.old sbytes.old) counts.old held.old) filled page.old (console_in (lent_of words.new bytes.new swords.new sbytes.new) counts.new held.new) result page.new }
 {
     match frame::begin(line, page, filled, counts, held) {
         Begun::Answered(n) => n,
@@ -234,7 +234,7 @@ fn read_on(
     requires reads_nonzero { 0 < at.reads }
     ensures within_2 { Within result }
     ensures reads_lt_reads { result.reads < at.reads }
-    ensures filled_value { result.filled ≡ roomMade 131072 at.filled 131072 }
+    ensures filled_value { result.filled ≡ room_made 131072 at.filled 131072 }
 {
     let filled = make_room(stdout, page, at.filled, PAGE);
     let kept = keep_line(part, at.from, at.got);
@@ -299,7 +299,7 @@ fn behind(stdout: Stdout, page: &[u8; PAGE], at: Cursor, filled: usize) -> Curso
     requires filled_bound { filled ≤ 131072 }
     ensures within_2 { Within result }
     ensures result_bound { input_left result < input_left at }
-    ensures filled_value { result.filled ≡ roomMade 131072 filled 64 }
+    ensures filled_value { result.filled ≡ room_made 131072 filled 64 }
 {
     let start = at.end + 1;
     Cursor {
@@ -327,9 +327,9 @@ fn answer_all(
     reply: &mut [u8; 32768],
 ) -> usize
     requires fit { Fit (lent_of words.old bytes.old swords.old sbytes.old) reply.old }
-    requires held_value { consoleIn (lent_of words.old bytes.old swords.old sbytes.old) counts.old held.old ≡ open_console }
+    requires held_value { console_in (lent_of words.old bytes.old swords.old sbytes.old) counts.old held.old ≡ open_console }
     ensures upper_bound { result ≤ 131072 }
-    ensures all_answered { AllAnswered (consoleIn (lent_of words.new bytes.new swords.new sbytes.new) counts.new held.new) result page.new }
+    ensures all_answered { AllAnswered (console_in (lent_of words.new bytes.new swords.new sbytes.new) counts.new held.new) result page.new }
 {
     let first = Cursor {
         from: 0,

@@ -22,7 +22,7 @@ use Rattle.frames_lines.specs.Rest.{rest_of}
 use Rattle.frames_console.specs.Page.{Added}
 use Rattle.frames_lines.specs.Served.{state_in, FrameServed, mark_after, Answered}
 use Rattle.frames_console.specs.Lines.{refused_text, begin_text, begun_as, Begins, rest_in, Ends}
-use Rattle.frames_console.specs.Answers.{consoleIn, Output, TurnsServed, LineAnswered}
+use Rattle.frames_console.specs.Answers.{console_in, Output, TurnsServed, LineAnswered}
 use Rattle.frames_lines.proofs.HeldLaws.{rest_of_lem, rests_many}
 use Rattle.frames_lines.proofs.FrameLaws.{frame_answered, frame_refused, malformed_line}
 use Rattle.frames_console.proofs.BeginLaws.{given_bounds}
@@ -54,8 +54,8 @@ by_line filled page {o = o} {c} e a p = record {
 }
 
 -- the console, by what the sessions hold
-console_is : (l : Lent) (counts : List ℕ) (held : Bytes) {rests : List Bytes} → rests_in counts held ≡ rests → consoleIn l counts held ≡ record { state = state_in l; rests = rests }
-unfolding consoleIn
+console_is : (l : Lent) (counts : List ℕ) (held : Bytes) {rests : List Bytes} → rests_in counts held ≡ rests → console_in l counts held ≡ record { state = state_in l; rests = rests }
+unfolding console_in
 console_is l counts held e = ap (λ (r : List Bytes). record { state = state_in l; rests = r }) e
 
 -- a session above 15
@@ -64,29 +64,29 @@ unfolding refused_text
 refused_line g c t above some_bytes many = frame_refused g c above some_bytes many t
 
 module _ (l : Lent) (counts : List ℕ) (held : Bytes) {line page page' held' : Bytes} {filled n : ℕ} (b : Begins line filled page counts held (Put n) page' held') where
-  same_console : consoleIn l counts held ≡ consoleIn l counts held'
-  unfolding consoleIn
+  same_console : console_in l counts held ≡ console_in l counts held'
+  unfolding console_in
   same_console = ap (λ (r : List Bytes). record { state = state_in l; rests = r }) (sym b.rests)
 
-  whole_line : (o : Option F.Given) {text : Bytes} → F.given line ≡ o → Added text filled page n page' → Answered o (consoleIn l counts held) (take filled page) (consoleIn l counts held) (take filled page ++ text) → LineAnswered line (consoleIn l counts held) filled page (consoleIn l counts held') n page'
+  whole_line : (o : Option F.Given) {text : Bytes} → F.given line ≡ o → Added text filled page n page' → Answered o (console_in l counts held) (take filled page) (console_in l counts held) (take filled page ++ text) → LineAnswered line (console_in l counts held) filled page (console_in l counts held') n page'
   whole_line o e a x =
       let y = by_line filled page e x (output_more (output_page filled page) a) in
       record { output = y.output; console = sym same_console ∙ y.console }
 
   by_session : (g : F.Given) (d : Bool) → ltb g.session 16 ≡ d → F.given line ≡ some g
       → Put n ≡ cond d (Serve g.session (count_at counts g.session + length g.input) n) (Put n)
-      → Added (cond d (head_text g.session) (refused_text g.session)) filled page n page' → LineAnswered line (consoleIn l counts held) filled page (consoleIn l counts held') n page'
-  unfolding consoleIn
+      → Added (cond d (head_text g.session) (refused_text g.session)) filled page n page' → LineAnswered line (console_in l counts held) filled page (console_in l counts held') n page'
+  unfolding console_in
   by_session g true u e r a = let z : ◌≡◌ {A = ℕ} 0 1 = cc in absurd (omega arith)
   by_session g false u e r a =
-      whole_line (some g) e a (refused_line g (consoleIn l counts held) (take filled page) (ltb-false g.session 16 u) (given_bounds line g e).some_bytes (rests_many counts held))
+      whole_line (some g) e a (refused_line g (console_in l counts held) (take filled page) (ltb-false g.session 16 u) (given_bounds line g e).some_bytes (rests_many counts held))
 
-  at_once : LineAnswered line (consoleIn l counts held) filled page (consoleIn l counts held') n page'
+  at_once : LineAnswered line (console_in l counts held) filled page (console_in l counts held') n page'
   unfolding begin_text begun_as
   at_once = go (F.given line) refl b.answer b.added
     where
-      go : (o : Option F.Given) → F.given line ≡ o → Put n ≡ begun_as o counts n → Added (begin_text o) filled page n page' → LineAnswered line (consoleIn l counts held) filled page (consoleIn l counts held') n page'
-      go none e r a = whole_line none e a (malformed_line (consoleIn l counts held) (take filled page))
+      go : (o : Option F.Given) → F.given line ≡ o → Put n ≡ begun_as o counts n → Added (begin_text o) filled page n page' → LineAnswered line (console_in l counts held) filled page (console_in l counts held') n page'
+      go none e r a = whole_line none e a (malformed_line (console_in l counts held) (take filled page))
       go (some g) e r a = by_session g (ltb g.session 16) refl e r a
 
 -- a frame that is served
@@ -129,23 +129,23 @@ module _ {line page page₁ page₂ page' held held₁ held' : Bytes} {counts co
       let head : Added (head_text i) filled page n page₁ = rw (ap begin_text (serve_is b).given ∙ (serve_is b).text) at b.added in
       served_from s.served head.front (sym (rest_is i at.from to held₁))
 
-  by_frame : Answered (some (record { session = i; input = (serve_is b).input })) (consoleIn l counts held) (take filled page) (record { state = state_in l'; rests = set (rests_in counts held) i (rest_of (rest_in i at.from to held₁)) }) (s.out ++ end_text at.replied (mark_after at.mark (rest_in i at.from to held₁)))
-  unfolding consoleIn
+  by_frame : Answered (some (record { session = i; input = (serve_is b).input })) (console_in l counts held) (take filled page) (record { state = state_in l'; rests = set (rests_in counts held) i (rest_of (rest_in i at.from to held₁)) }) (s.out ++ end_text at.replied (mark_after at.mark (rest_in i at.from to held₁)))
+  unfolding console_in
   by_frame =
-      frame_answered (record { session = i; input = (serve_is b).input }) (consoleIn l counts held) (take filled page) refl
+      frame_answered (record { session = i; input = (serve_is b).input }) (console_in l counts held) (take filled page) refl
       (frame_bytes ∙ ap (λ (u : Bytes). u ++ (serve_is b).input) (sym (rest_of_lem counts held i (serve_is b).below))) all_served
 
-  in_turns : LineAnswered line (consoleIn l counts held) filled page (consoleIn l' counts' held') filled' page'
+  in_turns : LineAnswered line (console_in l counts held) filled page (console_in l' counts' held') filled' page'
   in_turns =
       let y = by_line filled page (serve_is b).given by_frame (output_more s.output f.added) in
       let rests : rests_in counts' held' ≡ set (rests_in counts held) i (rest_of (rest_in i at.from to held₁)) = f.rests ∙ ap (λ (r : List Bytes). set r i (rest_of (rest_in i at.from to held₁))) b.rests in
       record { output = y.output; console = console_is l' counts' held' rests ∙ y.console }
 
 -- A LINE that is answered at once: its answer is exactly the line of the definition, with LF, and the console after it is the definition's
-pub line_answered : (l : Lent) {line page page' held held' : Bytes} {counts : List ℕ} {filled n : ℕ} {r : Begun} → Begins line filled page counts held r page' held' → r ≡ Put n → LineAnswered line (consoleIn l counts held) filled page (consoleIn l counts held') n page'
+pub line_answered : (l : Lent) {line page page' held held' : Bytes} {counts : List ℕ} {filled n : ℕ} {r : Begun} → Begins line filled page counts held r page' held' → r ≡ Put n → LineAnswered line (console_in l counts held) filled page (console_in l counts held') n page'
 line_answered l {held = held} {counts = counts} b e = at_once l counts held (rw e at b)
 
 -- A LINE that is begun, served in turns and ended
 pub line_served : {line page page₁ page₂ page' held held₁ held' : Bytes} {counts counts' : List ℕ} {filled i to n filled' : ℕ} {l l' : Lent} {r : Begun} {at : Progress} → Begins line filled page counts held r page₁ held₁ → r ≡ Serve i to n
-    → TurnsServed i (part (i * 8192) to held₁) n page₁ l at page₂ l' → Ends i to at page₂ counts held₁ filled' page' counts' held' → LineAnswered line (consoleIn l counts held) filled page (consoleIn l' counts' held') filled' page'
+    → TurnsServed i (part (i * 8192) to held₁) n page₁ l at page₂ l' → Ends i to at page₂ counts held₁ filled' page' counts' held' → LineAnswered line (console_in l counts held) filled page (console_in l' counts' held') filled' page'
 line_served b e s f = in_turns (rw e at b) s f

@@ -8,7 +8,7 @@ use lib.ListN.{take}
 use Rattle.base_key.specs.Bytes.{Bytes}
 use Rattle.call_spec.specs.Frames.{Console, open_console, frame, frames}
 use Rattle.frames_console.specs.Page.{Added}
-use Rattle.frames_console.specs.Answers.{roomMade, Output, LineAnswered, consoleAfter, linesText, AllAnswered}
+use Rattle.frames_console.specs.Answers.{room_made, Output, LineAnswered, console_after, lines_text, AllAnswered}
 
 -- nothing is written out
 pub output_page : (filled : ℕ) (page : Bytes) → Output (take filled page) filled page
@@ -33,8 +33,8 @@ pub output_from : (page : Bytes) {page' : Bytes} {filled₀ filled filled' : ℕ
 output_from page e o = record { written = o.written; is = ap (λ (k : ℕ). take k page) (sym e) ∙ o.is }
 
 -- room is made
-pub output_room : (page : Bytes) (size filled need : ℕ) {r : ℕ} → r ≡ roomMade size filled need → Output (take filled page) r page
-unfolding roomMade
+pub output_room : (page : Bytes) (size filled need : ℕ) {r : ℕ} → r ≡ room_made size filled need → Output (take filled page) r page
+unfolding room_made
 output_room page size filled need {r} e = go (leb need (size - filled)) e
   where
     go : (b : Bool) → r ≡ cond b filled 0 → Output (take filled page) r page
@@ -42,21 +42,21 @@ output_room page size filled need {r} e = go (leb need (size - filled)) e
     go false e = record { written = take filled page; is = sym (append-nil (take filled page)) ∙ ap (λ (k : ℕ). take filled page ++ take k page) (sym e) }
 
 -- THE ANSWERS, with one line more
-text_more : (ls : List Bytes) (l : Bytes) (c : Console) → linesText (frames (ls ++ l ∷ []) c) ≡ linesText (frames ls c) ++ ((frame l (consoleAfter ls c)).out ++ 10 ∷ [])
-unfolding linesText frames consoleAfter
+text_more : (ls : List Bytes) (l : Bytes) (c : Console) → lines_text (frames (ls ++ l ∷ []) c) ≡ lines_text (frames ls c) ++ ((frame l (console_after ls c)).out ++ 10 ∷ [])
+unfolding lines_text frames console_after
 text_more [] l c = append-nil ((frame l c).out ++ 10 ∷ [])
 text_more (k ∷ ls) l c =
     ap (λ (u : Bytes). ((frame k c).out ++ 10 ∷ []) ++ u) (text_more ls l (frame k c).console)
-    ∙ sym (append_assoc ((frame k c).out ++ 10 ∷ []) (linesText (frames ls (frame k c).console)) ((frame l (consoleAfter ls (frame k c).console)).out ++ 10 ∷ []))
+    ∙ sym (append_assoc ((frame k c).out ++ 10 ∷ []) (lines_text (frames ls (frame k c).console)) ((frame l (console_after ls (frame k c).console)).out ++ 10 ∷ []))
 
-after_more : (ls : List Bytes) (l : Bytes) (c : Console) → consoleAfter (ls ++ l ∷ []) c ≡ (frame l (consoleAfter ls c)).console
-unfolding consoleAfter
+after_more : (ls : List Bytes) (l : Bytes) (c : Console) → console_after (ls ++ l ∷ []) c ≡ (frame l (console_after ls c)).console
+unfolding console_after
 after_more [] l c = refl
 after_more (k ∷ ls) l c = after_more ls l (frame k c).console
 
 -- no line was read
 pub answers_none : {c : Console} {page : Bytes} {filled : ℕ} → c ≡ open_console → Output (take 0 page) filled page → AllAnswered c filled page
-unfolding linesText frames consoleAfter
+unfolding lines_text frames console_after
 answers_none e o = record { lines = []; output = o; console = e }
 
 -- the bytes in use are output that stands on another page
@@ -71,7 +71,7 @@ answers_more {line} {page} {page'} {c} {filled = filled} {filled'} a x = record 
     written = a.output.written ++ x.output.written;
     is =
         text_more a.lines line open_console
-        ∙ ap (λ (u : Bytes). u ++ ((frame line (consoleAfter a.lines open_console)).out ++ 10 ∷ [])) a.output.is
+        ∙ ap (λ (u : Bytes). u ++ ((frame line (console_after a.lines open_console)).out ++ 10 ∷ [])) a.output.is
         ∙ ap (λ (d : Console). (a.output.written ++ take filled page) ++ ((frame line d).out ++ 10 ∷ [])) (sym a.console)
         ∙ append_assoc a.output.written (take filled page) ((frame line c).out ++ 10 ∷ [])
         ∙ ap (λ (u : Bytes). a.output.written ++ u) x.output.is

@@ -13,7 +13,7 @@ use Rattle.frames_lines.specs.Served.{Serving, FrameServed}
 use Rattle.frames_lines.proofs.ServedLaws.{serving_start, serving_more, serving_last}
 use Rattle.frames_console.specs.declared.serve.Progress.{Progress}
 use Rattle.frames_console.specs.Steps.{Paused, Over, Reached, SomeServed}
-use Rattle.frames_console.specs.Answers.{roomMade, Output, TurnsServed}
+use Rattle.frames_console.specs.Answers.{room_made, Output, TurnsServed}
 use Rattle.frames_console.proofs.OutputLaws.{output_page, output_on, output_room}
 
 -- THE OUTPUT in front of the page
@@ -68,7 +68,7 @@ turns_none i s filled page {l} mark ok = record {
 }
 
 -- room is made, and a turn is taken
-pub turns_more : (size need : ℕ) {i : ℕ} {s page page₁ page₂ : Bytes} {filled room : ℕ} {at r : Progress} {l l₁ l₂ : Lent} → InTurns i s filled page l at page₁ l₁ → at.full ≡ true → room ≡ roomMade size at.filled need
+pub turns_more : (size need : ℕ) {i : ℕ} {s page page₁ page₂ : Bytes} {filled room : ℕ} {at r : Progress} {l l₁ l₂ : Lent} → InTurns i s filled page l at page₁ l₁ → at.full ≡ true → room ≡ room_made size at.filled need
     → SomeServed i s at.from at.replied room page₁ l₁ r page₂ l₂ → InTurns i s filled page l r page₂ l₂
 turns_more size need {i} {s} {page} {page₁} {page₂} {filled} {room} {at} {r} {l} {l₁} x t e p = record {
   out = o.written ++ take r.filled page₂;
@@ -84,6 +84,6 @@ turns_more size need {i} {s} {page} {page₁} {page₂} {filled} {room} {at} {r}
     so_far = coe 0 1 (z. Serving i s l false (take filled page) (drop at.from s) l₁ at.replied (o.is z)) (x.going t)
 
 -- the frame is over, and room is made
-pub turns_over : (size need : ℕ) {i : ℕ} {s page page' : Bytes} {filled room : ℕ} {at : Progress} {l l' : Lent} → InTurns i s filled page l at page' l' → at.full ≡ false → room ≡ roomMade size at.filled need
+pub turns_over : (size need : ℕ) {i : ℕ} {s page page' : Bytes} {filled room : ℕ} {at : Progress} {l l' : Lent} → InTurns i s filled page l at page' l' → at.full ≡ false → room ≡ room_made size at.filled need
     → TurnsServed i s filled page l (record { from = at.from; replied = at.replied; filled = room; full = at.full; mark = at.mark }) page' l'
 turns_over size need {page' = page'} {at = at} x t e = record { out = x.out; output = output_on x.output (output_room page' size at.filled need e); served = x.over t }

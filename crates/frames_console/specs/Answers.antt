@@ -8,12 +8,12 @@ use Rattle.frames_lines.specs.Served.{state_in, FrameServed}
 use Rattle.frames_lines.specs.Held.{rests_in}
 
 -- what the console is, in lent memory
-unfoldable pub consoleIn : Lent → List ℕ → Bytes → Console
-consoleIn l counts held = record { state = state_in l; rests = rests_in counts held }
+unfoldable pub console_in : Lent → List ℕ → Bytes → Console
+console_in l counts held = record { state = state_in l; rests = rests_in counts held }
 
 -- the bytes in use of a page of `size` bytes after room for `need` more is made: as they were, or none where the page is written out
-unfoldable pub roomMade : ℕ → ℕ → ℕ → ℕ
-roomMade size filled need = cond (leb need (size - filled)) filled 0
+unfoldable pub room_made : ℕ → ℕ → ℕ → ℕ
+room_made size filled need = cond (leb need (size - filled)) filled 0
 
 -- the output `t`: what was written out, and behind it the bytes of the page in use
 pub record Output (t : Bytes) (filled : ℕ) (page : Bytes) : Type 0 where
@@ -32,17 +32,17 @@ pub record LineAnswered (line : Bytes) (c : Console) (filled : ℕ) (page : Byte
   pub console : c' ≡ (frame line c).console
 
 -- the console after lines
-unfoldable pub consoleAfter : List Bytes → Console → Console
-consoleAfter [] c = c
-consoleAfter (l ∷ ls) c = consoleAfter ls (frame l c).console
+unfoldable pub console_after : List Bytes → Console → Console
+console_after [] c = c
+console_after (l ∷ ls) c = console_after ls (frame l c).console
 
 -- lines, each with LF
-unfoldable pub linesText : List Bytes → Bytes
-linesText [] = []
-linesText (l ∷ ls) = (l ++ 10 ∷ []) ++ linesText ls
+unfoldable pub lines_text : List Bytes → Bytes
+lines_text [] = []
+lines_text (l ∷ ls) = (l ++ 10 ∷ []) ++ lines_text ls
 
 -- THE ANSWERS to all lines that were read, from the opening on: output and console are the definition's
 pub record AllAnswered (c : Console) (filled : ℕ) (page : Bytes) : Type 0 where
   pub lines : List Bytes
-  pub output : Output (linesText (frames lines open_console)) filled page
-  pub console : c ≡ consoleAfter lines open_console
+  pub output : Output (lines_text (frames lines open_console)) filled page
+  pub console : c ≡ console_after lines open_console

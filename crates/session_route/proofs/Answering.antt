@@ -15,7 +15,7 @@ use Rattle.command_spec.specs.Sessions.{session_from, session_words, session_byt
 use Rattle.command_spec.specs.Finish.{Served, silent, finish_by, finish, Says, SessionLeft}
 use Rattle.command_spec.specs.Held.{Held, Left, cleared, opened, unwatched}
 use Rattle.session_memory.proofs.Kept.{words_kept, bytes_kept, bytes_cleared, bytes_marked, bytes_opened, bytes_unwatched}
-use Rattle.command_answer.specs.Answers.{refusal, putAnswer}
+use Rattle.command_answer.specs.Answers.{refusal, put_answer}
 use Rattle.session_route.specs.Answers.{changing, same, Answered, Steered, Marks, Unchanged}
 use Rattle.command_answer.proofs.Finish.{Cleared, replied, finish_wrote, finish_full, says_wrote, full_cleared, says_number}
 
@@ -102,16 +102,16 @@ module _ {used : ℕ} {put : Put} {w : List ℕ} where
   error_marks x {out = out} {out' = out'} z p m = m.steered x out out' z p
 
 -- A REPLY ALONE
-pub only_replied : {used : ℕ} {out out' : Bytes} {put : Put} {a : Answer} (r : Reply) → Cleared out → Puts (encode r) out put out' → a ≡ putAnswer put used → Unchanged (changing r same) used out a out'
-unfolding changing putAnswer
+pub only_replied : {used : ℕ} {out out' : Bytes} {put : Put} {a : Answer} (r : Reply) → Cleared out → Puts (encode r) out put out' → a ≡ put_answer put used → Unchanged (changing r same) used out a out'
+unfolding changing put_answer
 only_replied {used} {out} {out'} {put} {a} r z p a-is = go put refl
   where
     go : (q : Put) → put ≡ q → Unchanged (changing r same) used out a out'
     go (Wrote k) e = record {
-      is = λ w b h. subst (λ (x : Answer). Answered (changing r same) w w b b used out x out') (sym (a-is ∙ ap (λ (x : Put). putAnswer x used) e))
+      is = λ w b h. subst (λ (x : Answer). Answered (changing r same) w w b b used out x out') (sym (a-is ∙ ap (λ (x : Put). put_answer x used) e))
           (answered_wrote h (changing r same) used z r (session_from w b) (λ st. refl) p e (sym (words_kept h)) (sym (bytes_kept h)));
     }
     go Full e = record {
-      is = λ w b h. subst (λ (x : Answer). Answered (changing r same) w w b b used out x out') (sym (a-is ∙ ap (λ (x : Put). putAnswer x used) e))
+      is = λ w b h. subst (λ (x : Answer). Answered (changing r same) w w b b used out x out') (sym (a-is ∙ ap (λ (x : Put). put_answer x used) e))
           (answered_full h (changing r same) used z r (session_from w b) (λ st. refl) p e);
     }
