@@ -9,7 +9,7 @@ pub returns-then-session-gt15 : goal.returns-then-session-gt15
 returns-then-session-gt15 c = number_one _ _ _ _ _ (omega (arith, c.if-session-gt15.true))
 
 pub returns-then-not-validate : goal.returns-then-not-validate
-returns-then-not-validate c = store_nine _ _ _ _ _ (omega (arith, c.if-session-gt15.false)) c.validate.ensures (ap not c.if-not-validate.true)
+returns-then-not-validate c = store_nine _ _ _ _ _ (omega arith) c.validate.ensures (ap not c.if-not-validate.true)
 
 pub bounds-words-2 : goal.bounds-words-2
 bounds-words-2 c = search valid_words

@@ -13,7 +13,7 @@ pub has_room-requires : goal.has_room-requires
 has_room-requires c = search (rules, member_rows, valid_head)
 
 pub returns-then-not-has_room-clause-value : goal.returns-then-not-has_room-clause-value
-returns-then-not-has_room-clause-value c = settled_no_room c.args.parts.now c.args.«data».now c.args.member c.args.words.now c.args.bytes.now c.args.began c.moved_since.ensures c.if-moved_since.false c.requires.member_value c.requires.valid c.has_room.ensures c.if-not-has_room.true
+returns-then-not-has_room-clause-value c = search settled_no_room
 
 pub returns-then-not-has_room-clause-words_after : goal.returns-then-not-has_room-clause-words_after
 returns-then-not-has_room-clause-words_after c = stays_words c.args.words.now c.args.bytes.now _ NoRoom c.requires.valid refl
