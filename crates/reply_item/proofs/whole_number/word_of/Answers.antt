@@ -3,6 +3,7 @@
 use mathlib.Core.Path.{ap, ◌∙◌, sym, subst⁻¹}
 use Prim.Native.Nat.{◌-◌, ◌≤◌}
 use native.Mathlib.Omega.{arith}
+use borrow.Author.Rules.{rules}
 use lib.Dec.{T}
 use lib.IntN.{ℤ, nat_abs}
 use lib.Signed.{non_neg}
@@ -18,10 +19,10 @@ low : (c : Then-z-lt0) → Below c.args.z
 low c = below_zero _ c.ranges.z c.if-z-lt0.true
 
 pub overflow_sub-result : goal.overflow_sub-result
-overflow_sub-result c = (low (goal.at.overflow_sub-result c).Then-z-lt0).fits
+overflow_sub-result c = (below_zero c.args.z c.ranges.z (search rules)).fits
 
 pub overflow_cast-result : goal.overflow_cast-result
-overflow_cast-result c = subst⁻¹ (λ (x : ℤ). T (non_neg x) × Fits w64 (nat_abs x)) (low (goal.at.overflow_cast-result c).Then-z-lt0).mirror (tt, record { fits = omega (arith, (low (goal.at.overflow_cast-result c).Then-z-lt0).small) })
+overflow_cast-result c = subst⁻¹ (λ (x : ℤ). T (non_neg x) × Fits w64 (nat_abs x)) (below_zero c.args.z c.ranges.z (search rules)).mirror (tt, record { fits = omega (arith, (below_zero c.args.z c.ranges.z (search rules)).small) })
 
 pub overflow_sub-result-then-z-lt0 : goal.overflow_sub-result-then-z-lt0
 overflow_sub-result-then-z-lt0 c = subst⁻¹ (λ (x : ℤ). nat_abs x ≤ 18446744073709551615) (low (goal.at.overflow_sub-result-then-z-lt0 c).Then-z-lt0).mirror (omega (arith, (low (goal.at.overflow_sub-result-then-z-lt0 c).Then-z-lt0).small))
