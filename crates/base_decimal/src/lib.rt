@@ -3,24 +3,15 @@
 
 pub mod digits;
 
-ghost use Rattle.std.specs.Prelude.{◌≡◌, nat_abs};
+ghost use Rattle.std.specs.Prelude.{◌≡◌};
 ghost use Rattle.base_writing.specs.Puts.{Puts, Adds};
 ghost use Rattle.base_number.specs.Decimal.{decimal};
 
-use base_writing::Put;
-
-// The size of a number without its sign.
-fn magnitude(z: i64) -> u64
-    ensures { result ≡ nat_abs z }
-{
-    if z < 0 { (-1 - z) as u64 + 1 } else { z as u64 }
-}
-
 // Writes a number, with `-` in front of one below zero.
-pub fn put_decimal(out: &mut [u8], z: i64) -> Put
+pub fn put_decimal(out: &mut [u8], z: i64) -> Option<usize>
     ensures { Puts (decimal z) out.old result out.new }
 {
-    let size = magnitude(z);
+    let size = z.unsigned_abs();
     if z < 0 {
         let put = base_writing::put_byte(out, b'-');
         return digits::then_digits(out, put, size);
@@ -29,7 +20,7 @@ pub fn put_decimal(out: &mut [u8], z: i64) -> Put
 }
 
 // Writes it behind what was put.
-pub fn then_decimal(out: &mut [u8], put: Put, z: i64) -> Put
+pub fn then_decimal(out: &mut [u8], put: Option<usize>, z: i64) -> Option<usize>
     ensures { Adds (decimal z) put out.old result out.new }
 {
     let at = base_writing::place(put, out.len());

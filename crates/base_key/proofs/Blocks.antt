@@ -1,19 +1,19 @@
 -- Laws of the blocks of eight bytes in which keys are compared. Assumes nothing.
-use Prim.Native.Nat.{ℕ, suc, ◌+◌, ◌-◌, ◌*◌, ◌%◌, ◌≤◌, ◌<◌}
+use Prim.Native.Nat.{ℕ, suc, ◌+◌, ◌*◌, ◌≤◌, ◌<◌}
 use native.Mathlib.Numerals.{add-one}
 use mathlib.Core.Path.{◌≡◌, refl, sym, ap, ◌∙◌}
 use mathlib.Core.List.{List, ◌∷◌, ◌++◌}
 use mathlib.Core.Bool.{Bool, true, false}
 use lib.Dec.{eqb}
-use lib.ListN.{length, take, drop, get_or, take-append-drop}
-use lib.Seq.{drop-cons, drop-drop, drop-length}
+use lib.ListN.{length, drop, get_or, take-append-drop}
+use lib.Seq.{drop-cons, drop-drop}
 use borrow.Author.Tests.{eq-eqb, ne_eqb}
 use native.Mathlib.Omega.{arith}
 use Rattle.base_key.specs.Bytes.{same_bytes, part}
 use Rattle.base_key.specs.Blocks.{Alike, FourAt, EightAt, same_block}
-use Rattle.base_key.specs.Keys.{compare_keys, same_key}
+use Rattle.base_key.specs.Keys.{compare_keys}
 use Rattle.base_key.proofs.Bytes.{neither}
-use Rattle.base_key.proofs.Keys.{compare_front, same_is, same_refl, same_bytes_lem, same_list, other_list}
+use Rattle.base_key.proofs.Keys.{compare_front, same_is, same_refl, same_bytes_lem}
 
 -- THE BYTES OF A BLOCK
 part_next : (l : List ℕ) (i j n : ℕ) → i + 1 ≡ j → i < length l → part i (suc n) l ≡ get_or l i 0 ∷ part j n l
@@ -83,56 +83,12 @@ module _ {a b : List ℕ} {i : ℕ} where
         go false f = ne_eqb x y (λ (g : x ≡ y). neither (ap (same_bytes (part i 8 a)) (sym (eight_parts g)) ∙ same_bytes_lem _ _ ∙ same_refl (part i 8 a)) f)
 
   -- the same eight bytes more
-  pub alike_block : {r : Bool} → r ≡ same_block a b i → r ≡ true → Alike a b i → 8 ≤ length a - i → 8 ≤ length b - i → Alike a b (i + 8)
-  alike_block e t al h k =
+  pub alike_block : {r : Bool} {j : ℕ} → r ≡ same_block a b i → r ≡ true → Alike a b i → j ≡ i + 8 → j ≤ length a → j ≤ length b → Alike a b j
+  alike_block e t al n h k =
       record {
-        in_a = omega (arith, al.in_a);
-        in_b = omega (arith, al.in_b);
-        rest = al.rest ∙ (λ z. compare_keys (block_first a i z) ((block_first b i ∙ ap (λ (m : List ℕ). m ++ drop (i + 8) b) (sym (block_is a b i e t))) z)) ∙ compare_front (part i 8 a) (drop (i + 8) a) (drop (i + 8) b);
+        in_a = h;
+        in_b = k;
+        rest = rw n
+            (al.rest ∙ (λ z. compare_keys (block_first a i z) ((block_first b i ∙ ap (λ (m : List ℕ). m ++ drop (i + 8) b) (sym (block_is a b i e t))) z))
+            ∙ compare_front (part i 8 a) (drop (i + 8) a) (drop (i + 8) b));
       }
-
--- A WALK OVER THE WHOLE BLOCKS AT THE END OF TWO KEYS, from the last one on: from i on they are the same
-pub record BlocksSame (a b : List ℕ) (i : ℕ) : Type 0 where
-  pub inside : i ≤ length a
-  pub whole : i % 8 ≡ length a % 8
-  pub rest : drop i a ≡ drop i b
-
-module _ {a b : List ℕ} where
-  pub blocks_none : length a ≡ length b → BlocksSame a b (length a)
-  blocks_none e = record { inside = omega arith; whole = refl; rest = drop-length a ∙ sym (ap (λ (n : ℕ). drop n b) e ∙ drop-length b) }
-
-  module _ {i : ℕ} (s : BlocksSame a b i) where
-    module _ {r : Bool} (is : r ≡ same_block a b (i - 8)) (h : 8 ≤ i) where
-      -- the block before is the same
-      pub blocks_more : r ≡ true → BlocksSame a b (i - 8)
-      blocks_more t =
-          let n : i - 8 + 8 ≡ i = omega arith in
-          let behind : drop (i - 8 + 8) a ≡ drop (i - 8 + 8) b = ap (λ (x : ℕ). drop x a) n ∙ s.rest ∙ ap (λ (x : ℕ). drop x b) (sym n) in
-          record {
-            inside = omega (arith, s.inside);
-            whole = omega (arith, s.whole);
-            rest = block_first a (i - 8) ∙ (λ z. block_is a b (i - 8) is t z ++ behind z) ∙ sym (block_first b (i - 8));
-          }
-
-      pub blocks_other : r ≡ false → false ≡ same_key (drop (length a % 8) a) (drop (length a % 8) b)
-      unfolding same_block
-      blocks_other f = other_list _ _ differ
-        where
-          start : ℕ
-          start = length a % 8
-
-          from : start + (i - 8 - start) ≡ i - 8
-          from = omega (arith, s.whole)
-
-          there : (l : List ℕ) → drop (i - 8 - start) (drop start l) ≡ drop (i - 8) l
-          there l = drop-drop (i - 8 - start) start l ∙ ap (λ (n : ℕ). drop n l) from
-
-          differ : drop start a ≡ drop start b → ⊥
-          differ e =
-              let p : part (i - 8) 8 a ≡ part (i - 8) 8 b = ap (take 8) (sym (there a) ∙ ap (drop (i - 8 - start)) e ∙ there b) in
-              neither (same_bytes_lem _ _ ∙ sym (same_list p)) (sym is ∙ f)
-
-    pub blocks_all : i < 8 → true ≡ same_key (drop (length a % 8) a) (drop (length a % 8) b)
-    blocks_all h =
-        let e : length a % 8 ≡ i = omega (arith, s.whole) in
-        same_list (ap (λ (x : ℕ). drop x a) e ∙ s.rest ∙ ap (λ (x : ℕ). drop x b) (sym e))

@@ -3,30 +3,35 @@ use mathlib.Core.Path.{◌≡◌, refl, sym, ap, ◌∙◌, subst}
 use mathlib.Core.Logic.{◌⊎◌, inl, inr, ⊎_elim}
 use mathlib.Core.Bool.{Bool, true, false, false≢true}
 use mathlib.Core.List.{List, [], ◌∷◌, ◌++◌}
-use Prim.Native.Nat.{ℕ, suc, ◌+◌, ◌-◌, ◌≤◌, ◌<◌}
+use Prim.Native.Nat.{ℕ, ◌+◌, ◌-◌, ◌≤◌, ◌<◌}
 use native.Mathlib.Nat.{le_of_lt}
 use native.Mathlib.Numerals.{add-one}
-use lib.ListN.{length, take, drop, get_or, drop_of_length-le, take-append-drop}
-use lib.Seq.{drop-cons, get_or-take, length-take-le}
+use lib.ListN.{length, drop, get_or, drop_of_length-le}
+use lib.Seq.{drop-cons}
 use lib.Dec.{ltb, eqb}
 use native.Mathlib.Omega.{arith}
-use borrow.Author.Rules.{rules}
 use borrow.Author.Tests.{lt-ltb, le-ltb, ltb-true, ltb-false, eq-eqb, ne_eqb}
-use Rattle.base_key.specs.declared.Order.{Order}
-use Rattle.base_key.specs.declared.Order.TheVariants.{Less, Equal, Greater}
+use Rattle.std.proofs.Common.{Option, Some, None, Bor, Decides}
+use Rattle.std.proofs.lemmas.Bool.Decides.{same_from_decides}
+use Rattle.std.proofs.lemmas.Slice.Eq.{bytes_eq-Decides}
+use Rattle.std.specs.List.{slice_get}
+use Rattle.std.specs.Option.{option_copied, option_eq}
+use Rattle.std.specs.Str.{bytes_eq}
 use Rattle.base_key.specs.Bytes.{◌and◌, same_bytes}
 use Rattle.base_key.specs.Blocks.{Alike}
 use Rattle.base_key.specs.Keys.{compare_keys, order_by, then_by, order_of_versions, is_less, is_equal, same_key}
 use Rattle.base_key.proofs.Bytes.{neither}
+use Rattle.std.specs.declared.cmp.Ordering.TheVariants.{Less, Equal, Greater}
+use Rattle.std.specs.declared.cmp.Ordering.{Ordering}
 
 -- THE ORDER OF KEYS
 -- the order the other way round
-abbrev pub turned : Order → Order
+abbrev pub turned : Ordering → Ordering
 turned Less = Greater
 turned Equal = Equal
 turned Greater = Less
 
-turn_first : (x y : ℕ) (o : Order) → order_by (ltb y x) (ltb x y) (turned o) ≡ turned (order_by (ltb x y) (ltb y x) o)
+turn_first : (x y : ℕ) (o : Ordering) → order_by (ltb y x) (ltb x y) (turned o) ≡ turned (order_by (ltb x y) (ltb y x) o)
 turn_first x y o = go (ltb x y) (ltb y x) refl refl
   where
     go : (p q : Bool) → ltb x y ≡ p → ltb y x ≡ q → order_by q p (turned o) ≡ turned (order_by p q o)
@@ -43,7 +48,7 @@ compare_turned (x ∷ a) [] = refl
 compare_turned (x ∷ a) (y ∷ b) = ap (order_by (ltb y x) (ltb x y)) (compare_turned a b) ∙ turn_first x y (compare_keys a b)
 
 -- what an order of two numbers with a tie tells
-less_cases : (x y : ℕ) (o : Order) → order_by (ltb x y) (ltb y x) o ≡ Less → (x < y) ⊎ ((x ≡ y) × (o ≡ Less))
+less_cases : (x y : ℕ) (o : Ordering) → order_by (ltb x y) (ltb y x) o ≡ Less → (x < y) ⊎ ((x ≡ y) × (o ≡ Less))
 less_cases x y o e = go (ltb x y) (ltb y x) refl refl e
   where
     go : (p q : Bool) → ltb x y ≡ p → ltb y x ≡ q → order_by p q o ≡ Less → (x < y) ⊎ ((x ≡ y) × (o ≡ Less))
@@ -51,7 +56,7 @@ less_cases x y o e = go (ltb x y) (ltb y x) refl refl e
     go false true f g h = let z : ◌≡◌ {A = ℕ} 0 1 = cc in absurd (omega arith)
     go false false f g h = inr (let k = ltb-false x y f in let l = ltb-false y x g in omega arith, h)
 
-equal_case : (x y : ℕ) (o : Order) → order_by (ltb x y) (ltb y x) o ≡ Equal → (x ≡ y) × (o ≡ Equal)
+equal_case : (x y : ℕ) (o : Ordering) → order_by (ltb x y) (ltb y x) o ≡ Equal → (x ≡ y) × (o ≡ Equal)
 equal_case x y o e = go (ltb x y) (ltb y x) refl refl e
   where
     go : (p q : Bool) → ltb x y ≡ p → ltb y x ≡ q → order_by p q o ≡ Equal → (x ≡ y) × (o ≡ Equal)
@@ -72,7 +77,7 @@ unfolding compare_keys
 compare_front [] a b = refl
 compare_front (x ∷ p) a b = rw (le-ltb x x (omega arith)) (compare_front p a b)
 
-tie_less : (x z : ℕ) (o : Order) → x ≡ z → o ≡ Less → order_by (ltb x z) (ltb z x) o ≡ Less
+tie_less : (x z : ℕ) (o : Ordering) → x ≡ z → o ≡ Less → order_by (ltb x z) (ltb z x) o ≡ Less
 tie_less x z o e h = rw (le-ltb x z (omega arith), le-ltb z x (omega arith)) h
 
 pub compare_trans : (a b c : List ℕ) → compare_keys a b ≡ Less → compare_keys b c ≡ Less → compare_keys a c ≡ Less
@@ -92,7 +97,7 @@ compare_trans (x ∷ a) (y ∷ b) (z ∷ c) p q =
 pub compare_refl : (a : List ℕ) → compare_keys a a ≡ Equal
 compare_refl a = go (compare_keys a a) (compare_turned a a)
   where
-    go : (o : Order) → o ≡ turned o → o ≡ Equal
+    go : (o : Ordering) → o ≡ turned o → o ≡ Equal
     go Less e = let z : ◌≡◌ {A = ℕ} 0 1 = cc in absurd (omega arith)
     go Equal e = refl
     go Greater e = let z : ◌≡◌ {A = ℕ} 0 1 = cc in absurd (omega arith)
@@ -101,12 +106,12 @@ pub key_swap : (a b : List ℕ) → compare_keys a b ≡ Greater → compare_key
 key_swap a b e = compare_turned a b ∙ ap turned e
 
 -- ONE KEY
-pub less_is : (o : Order) → is_less o ≡ true → o ≡ Less
+pub less_is : (o : Ordering) → is_less o ≡ true → o ≡ Less
 less_is Less e = refl
 less_is Equal e = absurd (false≢true e)
 less_is Greater e = absurd (false≢true e)
 
-pub equal_is : (o : Order) → is_equal o ≡ true → o ≡ Equal
+pub equal_is : (o : Ordering) → is_equal o ≡ true → o ≡ Equal
 equal_is Less e = absurd (false≢true e)
 equal_is Equal e = refl
 equal_is Greater e = absurd (false≢true e)
@@ -128,13 +133,13 @@ pub same_sym : (a b : List ℕ) → same_key a b ≡ same_key b a
 unfolding same_key
 same_sym a b = turned_equal (compare_keys a b) ∙ ap is_equal (sym (compare_turned a b))
   where
-    turned_equal : (o : Order) → is_equal o ≡ is_equal (turned o)
+    turned_equal : (o : Ordering) → is_equal o ≡ is_equal (turned o)
     turned_equal Less = refl
     turned_equal Equal = refl
     turned_equal Greater = refl
 
 -- the test of bytes is the test of keys
-same_step : (x y : ℕ) (o : Order) → eqb x y and is_equal o ≡ is_equal (order_by (ltb x y) (ltb y x) o)
+same_step : (x y : ℕ) (o : Ordering) → eqb x y and is_equal o ≡ is_equal (order_by (ltb x y) (ltb y x) o)
 unfolding ◌and◌
 same_step x y o = ⊎_elim
     (λ (e : x ≡ y). rw (eq-eqb x y e, le-ltb x y (omega arith), le-ltb y x (omega arith)))
@@ -173,64 +178,25 @@ other_list a b h = go (same_key a b) refl
 pub differ_by_length : (a b : List ℕ) → (length a ≡ length b → ⊥) → false ≡ same_key a b
 differ_by_length a b h = other_list a b (λ (e : a ≡ b). h (ap length e))
 
--- two parts of each: the ends from m on, and what stands in front of them
-module _ (a b : List ℕ) (m : ℕ) {t : Bool} (is : t ≡ same_key (drop m a) (drop m b)) where
-  pub differ_by_end : t ≡ false → false ≡ same_key a b
-  differ_by_end f = other_list a b (λ (e : a ≡ b). neither (sym (same_list (ap (drop m) e))) (sym is ∙ f))
+-- `==` on two keys
+pub same_key-Decides : (a b : List ℕ) → Decides (same_key a b) (a ≡ b)
+same_key-Decides a b = (same_is a b, λ (e : a ≡ b). sym (same_list e))
 
-  pub same_by_front : {r : Bool} → t ≡ true → r ≡ same_key (take m a) (take m b) → r ≡ same_key a b
-  same_by_front {r} e i = i ∙ go (same_key (take m a) (take m b)) refl
-    where
-      behind : drop m a ≡ drop m b
-      behind = same_is _ _ (sym is ∙ e)
+pub equal_bytes : (a b : List ℕ) → bytes_eq a b ≡ same_key a b
+equal_bytes a b = same_from_decides _ _ (bytes_eq-Decides a b) (same_key-Decides a b)
 
-      go : (v : Bool) → same_key (take m a) (take m b) ≡ v → v ≡ same_key a b
-      go true q = same_list (sym (take-append-drop m a) ∙ (λ z. same_is _ _ q z ++ behind z) ∙ take-append-drop m b)
-      go false q = other_list a b (λ (f : a ≡ b). neither (sym (same_list (ap (take m) f))) q)
-
--- A WALK OVER THE FIRST n BYTES OF TWO KEYS, from the last of them on: from i on they are the same
-pub record FrontSame (a b : List ℕ) (n i : ℕ) : Type 0 where
-  pub inside : i ≤ n
-  pub rest : drop i (take n a) ≡ drop i (take n b)
-
-module _ {a b : List ℕ} {n : ℕ} (h : n ≤ length a) (k : n ≤ length b) where
-  pub front_none : FrontSame a b n n
-  front_none = record {
-    inside = omega arith;
-    rest =
-        drop_of_length-le (take n a) {i = n} (omega (arith, length-take-le n a h))
-        ∙ sym (drop_of_length-le (take n b) {i = n} (omega (arith, length-take-le n b k)));
-  }
-
-  module _ {i : ℕ} (s : FrontSame a b n i) (p : 0 < i) where
-    -- the byte before is the same
-    pub front_more : get_or a (i - 1) 0 ≡ get_or b (i - 1) 0 → FrontSame a b n (i - 1)
-    front_more e =
-        let j = i - 1 in
-        let l : j < n = omega (arith, s.inside) in
-        let n' : suc j ≡ i = omega arith in
-        let at : get_or (take n a) j 0 ≡ get_or (take n b) j 0 = get_or-take n a j 0 l ∙ e ∙ sym (get_or-take n b j 0 l) in
-        let behind : drop (suc j) (take n a) ≡ drop (suc j) (take n b) = ap (λ (x : ℕ). drop x (take n a)) n' ∙ s.rest ∙ ap (λ (x : ℕ). drop x (take n b)) (sym n') in
-        record {
-          inside = omega (arith, s.inside);
-          rest =
-              drop-cons (take n a) j 0 (omega (arith, length-take-le n a h)) ∙ (λ z. at z ∷ behind z)
-              ∙ sym (drop-cons (take n b) j 0 (omega (arith, length-take-le n b k)));
-        }
-
-    pub front_other : (get_or a (i - 1) 0 ≡ get_or b (i - 1) 0 → ⊥) → false ≡ same_key (take n a) (take n b)
-    front_other ne =
-        let l : i - 1 < n = omega (arith, s.inside) in
-        other_list (take n a) (take n b)
-        (λ e. ne (sym (get_or-take n a (i - 1) 0 l) ∙ ap (λ (x : List ℕ). get_or x (i - 1) 0) e ∙ get_or-take n b (i - 1) 0 l))
-
-  pub front_all : {i : ℕ} → FrontSame a b n i → i ≤ 0 → true ≡ same_key (take n a) (take n b)
-  front_all {i} s z =
-      let e : 0 ≡ i = omega arith in
-      same_list (ap (λ (x : ℕ). drop x (take n a)) e ∙ s.rest ∙ ap (λ (x : ℕ). drop x (take n b)) (sym e))
+-- keys whose last bytes differ are not one
+pub differ_by_last : (a b : List ℕ) (x y : Option (Bor ℕ)) {r : Bool} → option_copied x ≡ slice_get a (length a - 1) → option_copied y ≡ slice_get b (length b - 1) → r ≡ option_eq (λ p q. eqb p.now q.now) x y → r ≡ false → r ≡ same_key a b
+differ_by_last a b x y d e is f = f ∙ other_list a b (λ (g : a ≡ b). neither (go x y (d ∙ ap (λ (l : List ℕ). slice_get l (length l - 1)) g ∙ sym e)) (sym is ∙ f))
+  where
+    go : (x y : Option (Bor ℕ)) → option_copied x ≡ option_copied y → option_eq (λ p q. eqb p.now q.now) x y ≡ true
+    go None None h = refl
+    go None (Some q) h = cc
+    go (Some p) None h = cc
+    go (Some p) (Some q) h = eq-eqb p.now q.now cc
 
 -- THE ORDER OF VERSIONS
-turn_then : (o p : Order) → then_by (turned o) (turned p) ≡ turned (then_by o p)
+turn_then : (o p : Ordering) → then_by (turned o) (turned p) ≡ turned (then_by o p)
 turn_then Less p = refl
 turn_then Equal p = refl
 turn_then Greater p = refl
@@ -245,7 +211,7 @@ pub versions_differ : (a : List ℕ) (s : ℕ) (b : List ℕ) (t : ℕ) → s < 
 unfolding order_of_versions
 versions_differ a s b t h e = go (compare_keys a b) (simp (le-ltb t s (le_of_lt h), lt-ltb s t h) at e)
   where
-    go : (o : Order) → then_by o Greater ≡ Equal → ⊥
+    go : (o : Ordering) → then_by o Greater ≡ Equal → ⊥
     go Less q = let z : ◌≡◌ {A = ℕ} 0 1 = cc in omega arith
     go Equal q = let z : ◌≡◌ {A = ℕ} 0 1 = cc in omega arith
     go Greater q = let z : ◌≡◌ {A = ℕ} 0 1 = cc in omega arith
@@ -258,7 +224,7 @@ pub precedes : (a : List ℕ) (s : ℕ) (b : List ℕ) (t : ℕ) → order_of_ve
 unfolding order_of_versions
 precedes a s b t e = go (compare_keys a b) refl e
   where
-    go : (o : Order) → compare_keys a b ≡ o → then_by o (order_by (ltb t s) (ltb s t) Equal) ≡ Less → Precedes a s b t
+    go : (o : Ordering) → compare_keys a b ≡ o → then_by o (order_by (ltb t s) (ltb s t) Equal) ≡ Less → Precedes a s b t
     go Less f h = inl f
     go Greater f h = let z : ◌≡◌ {A = ℕ} 0 1 = cc in absurd (omega arith)
     go Equal f h = inr (compare_equal a b f, ⊎_elim (λ (k : t < s). k) (λ (k : (t ≡ s) × (Equal ≡ Less)). let e : Equal ≡ Less = k.1 in let z : ◌≡◌ {A = ℕ} 0 1 = cc in absurd (omega arith)) (less_cases t s Equal h))
@@ -286,9 +252,6 @@ both : (a b : List ℕ) (i : ℕ) → i < length a → i < length b → compare_
     ≡ order_by (ltb (get_or a i 0) (get_or b i 0)) (ltb (get_or b i 0) (get_or a i 0)) (compare_keys (drop (i + 1) a) (drop (i + 1) b))
 unfolding compare_keys
 both a b i h k = rw (add-one, drop-cons a i 0, drop-cons b i 0)
-
-pub alike_none : (a b : List ℕ) → Alike a b 0
-alike_none a b = record { in_a = search rules; in_b = search rules; rest = refl }
 
 module _ {a b : List ℕ} {i : ℕ} (al : Alike a b i) where
   -- the bytes at i are equal
@@ -320,7 +283,7 @@ module _ {a b : List ℕ} {i : ℕ} (al : Alike a b i) where
   ended h k = rw (al.rest, drop_of_length-le a {i = i} h, drop_of_length-le b {i = i} (omega arith))
 
 -- The order of versions, from how their keys compare: `o` is that.
-module _ {o : Order} (a : List ℕ) (s : ℕ) (b : List ℕ) (t : ℕ) (is : o ≡ compare_keys a b) where
+module _ {o : Ordering} (a : List ℕ) (s : ℕ) (b : List ℕ) (t : ℕ) (is : o ≡ compare_keys a b) where
   pub by_key_less : o ≡ Less → Less ≡ order_of_versions a s b t
   unfolding order_of_versions
   by_key_less e = simp (← is, e)

@@ -11,7 +11,7 @@ use lib.Signed.{mag}
 use lib.ListN.{length, take, drop, set, get_or, replicate, length-append, length-set, take-append-drop}
 use lib.Seq.{take-suc, set_at, length-take-le}
 use borrow.Author.Tests.{lt-ltb, le-ltb, ltb-false}
-use Rattle.base_writing.specs.declared.Put.TheVariants.{Wrote, Full}
+use Rattle.std.proofs.Common.{Option, Some, None, IfNone, IfSome, unwrap_or}
 use Rattle.base_writing.specs.Puts.{Puts}
 use Rattle.base_writing.proofs.Puts.{wrote, full}
 use Rattle.base_number.specs.Decimal.{digits_within, digits, decimal}
@@ -59,25 +59,27 @@ unfolding decimal
 decimal_few (pos n) h = let f = digits_few 18 n (omega arith) in omega arith
 decimal_few (negsuc n) h = let f = digits_few 18 (suc n) (omega arith) in omega arith
 
--- COUNTING
--- `count` digits, of which all but one stand behind those of `rest`
-pub record Counting (n rest count : ℕ) : Type 0 where
-  pub same : length (digits n) + 1 ≡ count + length (digits rest)
-  pub small : count + rest ≤ n + 1
+power_positive : (k : ℕ) → 0 < 10 ^ k
+power_positive zero = omega arith
+power_positive (suc k) = omega (arith, power_positive k)
 
-pub counting_none : (n : ℕ) → Counting n n 1
-counting_none n = record { same = omega arith; small = omega arith }
+-- at least as many as powers of ten are not above it
+digits_many : (k n : ℕ) → 10 ^ k ≤ n → suc k ≤ length (digits n)
+digits_many zero n h = go (dec_lt n 10)
+  where
+    go : Dec (n < 10) → 1 ≤ length (digits n)
+    go (yes low) = let e = ap length (digits_one n low) in omega arith
+    go (no high) = let e = ap length (digits_more n (omega arith)) ∙ length-append (digits (n / 10)) ((48 + n % 10) ∷ []) in omega arith
+digits_many (suc k) n h =
+    let p = power_positive k in
+    let e = ap length (digits_more n (omega arith)) ∙ length-append (digits (n / 10)) ((48 + n % 10) ∷ []) in
+    let ih = digits_many k (n / 10) (omega arith) in
+    omega arith
 
-module _ {n rest count : ℕ} (g : Counting n rest count) where
-  pub counting_more : 10 ≤ rest → Counting n (rest / 10) (count + 1)
-  counting_more h =
-      let one : length (digits rest) ≡ length (digits (rest / 10)) + 1 = ap length (digits_more rest h) ∙ length-append (digits (rest / 10)) ((48 + rest % 10) ∷ []) in
-      record { same = omega (arith, g.same, one); small = omega (arith, g.small) }
-
-  pub counting_all : rest < 10 → count ≡ length (digits n)
-  counting_all h =
-      let one : length (digits rest) ≡ 1 = ap length (digits_one rest h) in
-      omega (arith, g.same, one)
+-- one more than the logarithm, and one for 0
+pub digits_counted : (n : ℕ) (log : Option ℕ) → IfNone log (n ≡ 0) → IfSome log (λ k. 10 ^ k ≤ n) → IfSome log (λ k. n < 10 * 10 ^ k) → unwrap_or log 0 + 1 ≡ length (digits n)
+digits_counted n None none low high = let e = ap length (digits_one n (omega arith)) in omega arith
+digits_counted n (Some k) none low high = let m = digits_many k n low in let f = digits_few k n (omega arith) in omega arith
 
 -- WRITING, from the last digit to the first
 -- the last `count` digits of n
@@ -107,7 +109,7 @@ pub record Filled (n count : ℕ) (entry : List ℕ) (rest i : ℕ) (out : List 
   pub buffer : out ≡ take i entry ++ (written ++ drop count entry)
 
 -- digits that do not fit
-pub digits_too_long : (n : ℕ) {count : ℕ} {entry exit : List ℕ} → count ≡ length (digits n) → length entry < count → exit ≡ replicate (length entry) 0 → Puts (digits n) entry Full exit
+pub digits_too_long : (n : ℕ) {count : ℕ} {entry exit : List ℕ} → count ≡ length (digits n) → length entry < count → exit ≡ replicate (length entry) 0 → Puts (digits n) entry None exit
 digits_too_long n e h zeros = full (omega arith) zeros
 
 pub filled_none : (n : ℕ) {count : ℕ} {entry : List ℕ} → count ≡ length (digits n) → count ≤ length entry → Filled n count entry n count entry
@@ -144,7 +146,7 @@ module _ {n count : ℕ} {entry : List ℕ} {rest i : ℕ} {out : List ℕ} (g :
   pub filled_more : 0 < i → Filled n count entry (rest / 10) (i - 1) (set out (i - 1) (48 + rest % 10))
   filled_more h = filled_next (i - 1) (omega arith) g
 
-  pub filled_all : i ≤ 0 → Puts (digits n) entry (Wrote count) out
+  pub filled_all : i ≤ 0 → Puts (digits n) entry (Some count) out
   filled_all h =
       let none : i ≡ 0 = omega arith in
       let text : g.written ≡ digits n = ap (λ (k : ℕ). last_digits k rest ++ g.written) (sym none) ∙ g.same in

@@ -2,53 +2,30 @@
 ghost use Rattle.std.specs.Prelude.{◌≡◌};
 ghost use Rattle.base_number.specs.Number.{value_of, length_within, length_of};
 
-use crate::Length;
-
-// The greatest length, and the most that can take one more digit.
-const MOST: u64 = 18446744073709551615;
-
-const MOST_TENTH: u64 = 1844674407370955161;
-
 // Reads a text of digits alone, one at least.
-pub fn digits_value(text: &[u8]) -> Length
+pub fn digits_value(text: &[u8]) -> Option<u64>
     ensures { result ≡ length_within (value_of text.now) }
 {
-    if text.len() == 0 {
-        return Length::NoLength;
+    if text.is_empty() {
+        return None;
     }
     let mut value: u64 = 0;
-    let mut i = 0;
-    while i < text.len() {
-        let byte = text[i];
-        if byte < 48 {
-            return Length::NoLength;
+    for byte in text {
+        if !byte.is_ascii_digit() {
+            return None;
         }
-        if 57 < byte {
-            return Length::NoLength;
-        }
-        if MOST_TENTH < value {
-            return Length::NoLength;
-        }
-        let tens = value * 10;
-        let digit = (byte - 48) as u64;
-        if MOST - tens < digit {
-            return Length::NoLength;
-        }
-        value = tens + digit;
-        i += 1;
+        let digit = u64::from(*byte - b'0');
+        value = value.checked_mul(10)?.checked_add(digit)?;
     }
-    Length::Value(value)
+    Some(value)
 }
 
 // Reads a header's length.
-pub fn header_length(text: &[u8]) -> Length
+pub fn header_length(text: &[u8]) -> Option<u64>
     ensures { result ≡ length_of text.now }
 {
-    if text.len() == 0 {
-        return Length::NoLength;
+    match text.strip_prefix(b"+") {
+        Some(digits) => digits_value(digits),
+        None => digits_value(text),
     }
-    if text[0] == 43 {
-        return digits_value(&text[1..]);
-    }
-    digits_value(text)
 }

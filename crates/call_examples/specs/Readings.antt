@@ -1,10 +1,8 @@
 -- The readings of document 01 that are marked P, on the published calls or on their definitions, as one list with one fact that antt computes.
 use Rattle.std.specs.Prelude.{ℕ, ◌+◌, Bool, true, false, ◌&&◌, List, [], ◌∷◌, ◌++◌, map, T, eqb, ℤ, pos, negsuc, get_or, replicate}
 use Prim.Native.String.{String}
-use Rattle.std.proofs.Math.Option.{some}
+use Rattle.std.specs.Prelude.{Some}
 use Rattle.base_key.specs.Bytes.{Bytes, bytes, same_bytes}
-use Rattle.base_number.specs.declared.Number.{Number}
-use Rattle.base_number.specs.declared.Number.TheVariants.{Int, Bad}
 use Rattle.base_number.specs.Number.{int_arg}
 use Rattle.store_memtable.specs.Versions.{Store}
 use Rattle.group_spec.specs.Group.{verdict_byte, taken, group}
@@ -12,6 +10,7 @@ use Rattle.command_spec.specs.Glob.{glob}
 use Rattle.call_spec.specs.Serve.{Outcome}
 use Rattle.call_spec.specs.Calls.{Lent, open_call, request_call}
 use Rattle.call_spec.specs.Opens.{call_spec_opens}
+use Rattle.std.specs.Prelude.{Option, None}
 
 -- an empty store just opened, and sixteen clear sessions
 abbrev pub opened : Lent
@@ -45,16 +44,16 @@ gives o used text = eqb o.number 0 && eqb o.used used && same_bytes o.reply (byt
 abbrev pub replies : Outcome → String → Bool
 replies o text = eqb o.number 0 && same_bytes o.reply (bytes text)
 
-abbrev pub is_number : Number → ℤ → Bool
-is_number (Int (pos n)) (pos m) = eqb n m
-is_number (Int (negsuc n)) (negsuc m) = eqb n m
-is_number (Int (pos n)) (negsuc m) = false
-is_number (Int (negsuc n)) (pos m) = false
-is_number Bad z = false
+abbrev pub is_number : Option ℤ → ℤ → Bool
+is_number (Some (pos n)) (pos m) = eqb n m
+is_number (Some (negsuc n)) (negsuc m) = eqb n m
+is_number (Some (pos n)) (negsuc m) = false
+is_number (Some (negsuc n)) (pos m) = false
+is_number None z = false
 
-abbrev pub is_none : Number → Bool
-is_none (Int z) = false
-is_none Bad = true
+abbrev pub is_none : Option ℤ → Bool
+is_none (Some z) = false
+is_none None = true
 
 -- the counts of versions and the last sequence in the lent words
 abbrev pub version_count : Lent → ℕ
@@ -75,7 +74,7 @@ f_moved queued = after (line 0 "WATCH f" ∷ line 0 "MULTI" ∷ (queued ++ line 
 
 -- a store whose key a has its newest version at 5
 abbrev pub a_at5 : Store
-a_at5 = record { versions = record { key = bytes "a"; seq = 5; value = some (bytes "x") } ∷ []; last = 5; most_versions = 9; most_bytes = 99 }
+a_at5 = record { versions = record { key = bytes "a"; seq = 5; value = Some (bytes "x") } ∷ []; last = 5; most_versions = 9; most_bytes = 99 }
 
 unfoldable pub every : List Bool → Bool
 every [] = true
@@ -114,8 +113,8 @@ readings =
     ∷ same_bytes
     (map verdict_byte
     (group
-    (record { read_seq = some 5; writes = (bytes "a", some (bytes "y")) ∷ []; also_check = [] }
-    ∷ record { read_seq = some 5; writes = []; also_check = bytes "a" ∷ [] } ∷ [])
+    (record { read_seq = Some 5; writes = (bytes "a", Some (bytes "y")) ∷ []; also_check = [] }
+    ∷ record { read_seq = Some 5; writes = []; also_check = bytes "a" ∷ [] } ∷ [])
     a_at5).verdicts)
     (0 ∷ 1 ∷ [])
     -- `a*b?` matches `axbbc`

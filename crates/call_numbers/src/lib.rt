@@ -21,13 +21,12 @@ pub fn request_number(
     if 15 < session {
         return 1;
     }
-    if !valid::validate(words, bytes) {
+    if !valid::validate(words, bytes)
+        || !session_validity::sessions_ok(swords, sbytes, words[LAST])
+    {
         return 9;
     }
-    if session_validity::sessions_ok(swords, sbytes, words[LAST]) {
-        return 0;
-    }
-    9
+    0
 }
 
 // The number that a group call returns: 9, then 8, or 0. `inside` says that no part lies outside its buffer.
@@ -40,17 +39,11 @@ pub fn group_number(
 ) -> u64
     ensures { result ≡ group_number inside members verdicts words.now bytes.now }
 {
-    if valid::validate(words, bytes) {
-        if 64 < members {
-            return 8;
-        }
-        if verdicts < members {
-            return 8;
-        }
-        if inside {
-            return 0;
-        }
+    if !valid::validate(words, bytes) {
+        return 9;
+    }
+    if 64 < members || verdicts < members || !inside {
         return 8;
     }
-    9
+    0
 }

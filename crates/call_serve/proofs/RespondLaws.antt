@@ -1,10 +1,9 @@
 -- A request by its route: what the route's function answers and leaves is what the request is to. Assumes nothing.
 use Prim.Native.Nat.{ℕ, ◌≤◌}
-use native.Mathlib.Omega.{arith}
 use mathlib.Core.Path.{◌≡◌, refl, sym, ap, ◌∙◌, subst}
 use mathlib.Core.Bool.{Bool, true, false, cond}
 use mathlib.Core.List.{List, [], ◌∷◌, ◌++◌}
-use mathlib.Core.Option.{some}
+use Rattle.std.specs.Prelude.{Some}
 use lib.Dec.{leb}
 use lib.ListN.{length, get_or}
 use Rattle.base_key.specs.Bytes.{Bytes, part}
@@ -15,7 +14,6 @@ use Rattle.store_memtable.specs.Layout.{last_word, store_in, leave_words, leave_
 use Rattle.store_memtable.proofs.Sequence.{leave_words_same, leave_bytes_same}
 use Rattle.group_spec.specs.declared.Verdict.{Verdict}
 use Rattle.group_spec.specs.Group.{plain, verdict_alone, is_accepted, verdict_byte}
-use Rattle.group_spec.specs.Settling.{KeyIn}
 use Rattle.command_spec.specs.declared.Answer.{Answer}
 use Rattle.command_spec.specs.Names.{Args, Row, row_of, name_word, arguments, count_right, with_options, operation_of, arity, control_of}
 use Rattle.command_names.specs.declared.Row.{Row as CodeRow}
@@ -25,8 +23,7 @@ use Rattle.command_spec.specs.Session.{watched_keys, Session, Result, number, re
 use Rattle.command_spec.specs.Sessions.{yes?, queue_in, queue_of, session_from, session_words, session_bytes}
 use Rattle.command_spec.specs.Held.{Held}
 use Rattle.command_spec.specs.Finish.{Served, silent, fitted, finish_by, finish}
-use Rattle.command_spec.specs.Places.{arguments_at, PartsIn}
-use Rattle.command_spec.proofs.PlaceLaws.{part_in}
+use Rattle.command_spec.specs.Places.{arguments_at}
 use Rattle.session_memory.proofs.Kept.{words_kept, bytes_kept, held_by_tests}
 use Rattle.command_answer.proofs.Finish.{replied}
 use Rattle.command_room.specs.Served.{Answers}
@@ -44,10 +41,6 @@ use Rattle.session_route.specs.Routes.{route_by, step_done, queue_done, watch_do
 use Rattle.session_route.specs.Responds.{responded, Left, Ready}
 use Rattle.session_route.proofs.Routing.{name_first, request_routed}
 use Rattle.session_route.proofs.Requested.{here_answers, exec_request, run_request}
-
--- the request's name lies in the bytes
-pub name_in : {places : List ℕ} {input : Bytes} {count : ℕ} → PartsIn places input count → 1 ≤ count → KeyIn places input 0
-name_in {places} {input} {count} p h = part_in places input count 0 p (omega arith)
 
 -- WHAT STAYS. A request that leaves the store leaves it as bytes too, and so for the session
 module _ (room used : ℕ) (d : Done) (st : Store) (s : Session) where
@@ -99,7 +92,7 @@ way_store Queue r a st s =
     let n : ℕ = length (arguments a) in
     either_store (count_right r n) (cond (with_options (operation_of r.name) n) (says set_options st (marked s)) (enqueue (queue_of s.queue) a st s)) (says (arity r) st (marked s)) st
     (either_store (with_options (operation_of r.name) n) (says set_options st (marked s)) (enqueue (queue_of s.queue) a st s) st refl
-    (either_store (queue_fits q) (says queued_reply st (record { queue = some q; failed = s.failed; watch = s.watch })) (returns 4 st (marked s)) st refl refl)) refl
+    (either_store (queue_fits q) (says queued_reply st (record { queue = Some q; failed = s.failed; watch = s.watch })) (returns 4 st (marked s)) st refl refl)) refl
 way_store NotQueueable r a st s = refl
 
 -- a command outside MULTI

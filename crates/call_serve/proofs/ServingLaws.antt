@@ -12,7 +12,6 @@ use lib.Seq.{get_or-take, drop-drop}
 use borrow.Author.Tests.{lt-ltb}
 use Rattle.base_key.specs.Bytes.{Bytes, bytes, part}
 use Rattle.base_key.proofs.Bytes.{and_left, and_right, and_both}
-use Rattle.base_writing.specs.declared.Put.{Put}
 use Rattle.base_writing.specs.Puts.{Puts}
 use Rattle.resp_spec.specs.declared.Span.{Span}
 use Rattle.resp_spec.specs.declared.Fault.{Fault}
@@ -50,9 +49,10 @@ use Rattle.call_serve.proofs.RespondLaws.{ready_held}
 use Rattle.call_spec.proofs.ServeLaws.{ServeKept, serve_kept}
 use Rattle.call_spec.proofs.LentLaws.{valid_parts, session_good, eqb_differs}
 use Rattle.call_spec.proofs.CallLaws.{served, preview_valid}
+use Rattle.std.specs.Prelude.{Option}
 
 -- A PROTOCOL ERROR
-pub fault_answered : (input : Bytes) (f : Fault) (s : List ℕ) (out : Bytes) {put : Put} {mid : Bytes} {s' : List ℕ} {r : Answer}
+pub fault_answered : (input : Bytes) (f : Fault) (s : List ℕ) (out : Bytes) {put : Option ℕ} {mid : Bytes} {s' : List ℕ} {r : Answer}
     → Puts (encode (err (bytes "Protocol error: " ++ fault_text input f))) out put mid → Closes put (length input) s s' r → FaultLeft input f s out r s' mid
 unfolding protocol_error
 fault_answered input f s out {put} {mid} p c = record { leaves = λ w b sb v z h. c.leaves (protocol_error input f) w b out mid sb v z p h }
@@ -186,9 +186,6 @@ module _ (input : Bytes) (w : List ℕ) (b : Bytes) (s : List ℕ) (sb out : Byt
       left_as ((λ z. whole_served (length out) (same_count z) (same-used z) table input w b s sb) ∙ whole_is ps u table f) l
 
   module _ (places : ℕ) {r : Read} {table : List ℕ} (is : ReadIs (read_request places input) r table) where
-    pub table_holds : TableHolds (read_request places input) table
-    table_holds = record { front = is.front }
-
     pub serve_wait : {a : Answer} → r ≡ Wait → a ≡ refusal 0 → Left (served_in places (length out) input w b s sb) out w b s sb a out w b s sb
     unfolding served_in serve
     serve_wait e f = rw f (wait_by (read_request places input) (sym e ∙ is.answer))

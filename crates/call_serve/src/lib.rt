@@ -45,7 +45,7 @@ fn answer_whole(
     if count == 0 {
         return Answer {
             number: 0,
-            used: used,
+            used,
             reply: 0,
         };
     }

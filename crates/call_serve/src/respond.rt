@@ -4,6 +4,7 @@ ghost use Rattle.base_key.specs.Bytes.{part};
 ghost use Rattle.command_spec.specs.Places.{arguments_at, PartsIn};
 ghost use Rattle.session_route.specs.Responds.{responded, Left, Ready};
 
+use command_meaning::arguments::Request;
 use command_spec::Answer;
 use exec_run::transaction;
 use group_spec::parts;
@@ -45,8 +46,13 @@ pub fn respond(
             way, swords, sbytes, input, places, count, word, row, last, out, used,
         ),
         Route::Exec => transaction::exec(swords, sbytes, words, bytes, out, used),
-        Route::Run => command_direct::run_command(
-            row, input, places, count, used, words, bytes, out,
-        ),
+        Route::Run => {
+            let request = Request {
+                input,
+                places,
+                count,
+            };
+            command_direct::run_command(row, &request, used, words, bytes, out)
+        }
     }
 }

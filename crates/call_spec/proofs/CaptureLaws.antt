@@ -3,7 +3,7 @@ use Prim.Native.Nat.{ℕ, ◌≤◌}
 use native.Mathlib.Omega.{arith}
 use mathlib.Core.Bool.{Bool, true, false, cond, ◌&&◌}
 use mathlib.Core.List.{List, [], ◌∷◌, ◌++◌, map}
-use mathlib.Core.Option.{Option, none, some}
+use Rattle.std.specs.Prelude.{Option, None, Some}
 use mathlib.Core.Path.{◌≡◌, refl, sym, ap, ◌∙◌}
 use lib.Dec.{eqb}
 use lib.IntN.{ℤ, ◌+ℤ◌}
@@ -100,7 +100,7 @@ module _ (k : Key) where
   increment_written (EXISTS ks) p n = refl
   increment_written (MGET ks) p n = refl
   increment_written (MSET es) p n = refl
-  increment_written (COUNT j by) p n = ap (λ (b : Bool). cond (same_key j k && b) (some (or_zero n +ℤ by)) n) (integer_written p)
+  increment_written (COUNT j by) p n = ap (λ (b : Bool). cond (same_key j k && b) (Some (or_zero n +ℤ by)) n) (integer_written p)
   increment_written (FIXED r) p n = refl
 
   executed_written : (x : Executed) (p : Reply) (n : Option ℤ) → increment_by k x (written p) n ≡ increment_by k x p n
@@ -155,4 +155,4 @@ one_sum k (exec q b ∷ xs) n m m' h g =
 one_sum k (member ws ∷ xs) n m m' h g = one_sum k xs n m m' h g
 
 pub counter_by_replies : CounterByReplies
-counter_by_replies cs l o k only m h = counters cs l o k only ∙ ap text_of (one_sum k (items_of cs l) none (sum k (items_of cs l) [] none) m (counter_replies_lem cs l o k) h)
+counter_by_replies cs l o k only m h = counters cs l o k only ∙ ap text_of (one_sum k (items_of cs l) None (sum k (items_of cs l) [] None) m (counter_replies_lem cs l o k) h)

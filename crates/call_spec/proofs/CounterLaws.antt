@@ -3,7 +3,7 @@ use Prim.Native.Nat.{ℕ, suc, ◌^◌, ◌<◌}
 use native.Mathlib.Omega.{arith}
 use mathlib.Core.List.{List, [], ◌∷◌, map}
 use mathlib.Core.Bool.{Bool, true, false, cond, ◌||◌, ◌&&◌}
-use mathlib.Core.Option.{Option, none, some}
+use Rattle.std.specs.Prelude.{Option, None, Some}
 use mathlib.Core.Path.{◌≡◌, refl, ap, ◌∙◌}
 use lib.Dec.{ltb}
 use lib.IntN.{ℤ, ◌+ℤ◌}
@@ -13,8 +13,6 @@ use borrow.Author.Tests.{ltb-true}
 use Rattle.command_spec.proofs.CommandLaws.{tombstone_keys}
 use Rattle.base_key.specs.Keys.{Key, same_key}
 use Rattle.base_key.proofs.Keys.{same_refl, same_is}
-use Rattle.base_number.specs.declared.Number.{Number}
-use Rattle.base_number.specs.declared.Number.TheVariants.{Int, Bad}
 use Rattle.base_number.specs.Decimal.{decimal}
 use Rattle.base_number.specs.Number.{number_of}
 use Rattle.base_number.proofs.RoundTrip.{read_back}
@@ -43,20 +41,20 @@ put_keys [] = refl
 put_keys (e ∷ es) = ap {B = List Key} (λ l. e.0 ∷ l) (put_keys es)
 
 -- a counter writes no other key
-summed_keys : (n : Number) (j k : Key) → same_key j k ≡ false → among (keys_of (summed j n).1) k ≡ false
+summed_keys : (n : Option ℤ) (j k : Key) → same_key j k ≡ false → among (keys_of (summed j n).1) k ≡ false
 unfolding summed any_key
-summed_keys (Int n) j k d = rw d
-summed_keys Bad j k d = refl
+summed_keys (Some n) j k d = rw d
+summed_keys None j k d = refl
 
-raised_keys : (n : Number) (j k : Key) (by : ℤ) → same_key j k ≡ false → among (keys_of (raised j by n).1) k ≡ false
+raised_keys : (n : Option ℤ) (j k : Key) (by : ℤ) → same_key j k ≡ false → among (keys_of (raised j by n).1) k ≡ false
 unfolding raised any_key
-raised_keys Bad j k by d = refl
-raised_keys (Int n) j k by d = summed_keys (number_of (n +ℤ by)) j k d
+raised_keys None j k by d = refl
+raised_keys (Some n) j k by d = summed_keys (number_of (n +ℤ by)) j k d
 
 -- within 64 bits
 abbrev Small : Option ℤ → Type 0
-Small none = Unit {0}
-Small (some n) = mag n < 2 ^ 63
+Small None = Unit {0}
+Small (Some n) = mag n < 2 ^ 63
 
 -- the key `k` of the table holds the sum `n`
 record Counts (k : Key) (t : Table) (n : Option ℤ) : Type 0 where
@@ -67,19 +65,19 @@ module _ (k : Key) where
   other_keys : (ws : List Write) (t : Table) (n : Option ℤ) → Ascending t → Counts k t n → among (keys_of ws) k ≡ false → Counts k (write_all ws t) n
   other_keys ws t n s c e = record { holds = find_write_all ws t s k ∙ over_other ws (find t) k e ∙ c.holds; small = c.small }
 
-  held_sum : (n : Option ℤ) → Small n → held (text_of n) ≡ Int (or_zero n)
-  held_sum none f = refl
-  held_sum (some n) f = read_back n f
+  held_sum : (n : Option ℤ) → Small n → held (text_of n) ≡ Some (or_zero n)
+  held_sum None f = refl
+  held_sum (Some n) f = read_back n f
 
   -- the counter itself: the sum where it fits, and nothing where it does not
   summed_sum : (z : ℤ) (t : Table) (n : Option ℤ) → Ascending t → Counts k t n
-      → Counts k (write_all (summed k (number_of z)).1 t) (cond (is_integer (summed k (number_of z)).0) (some z) n)
+      → Counts k (write_all (summed k (number_of z)).1 t) (cond (is_integer (summed k (number_of z)).0) (Some z) n)
   unfolding summed number_of write_all over overlay
   summed_sum z t n s c = go (ltb (mag z) (2 ^ 63)) refl
     where
       go : (b : Bool) → ltb (mag z) (2 ^ 63) ≡ b
-          → Counts k (write_all (summed k (cond b (Int z) Bad)).1 t) (cond (is_integer (summed k (cond b (Int z) Bad)).0) (some z) n)
-      go true p = record { holds = find_write_all ((k, some (decimal z)) ∷ []) t s k ∙ rw (same_refl k); small = ltb-true (mag z) (2 ^ 63) p }
+          → Counts k (write_all (summed k (cond b (Some z) None)).1 t) (cond (is_integer (summed k (cond b (Some z) None)).0) (Some z) n)
+      go true p = record { holds = find_write_all ((k, Some (decimal z)) ∷ []) t s k ∙ rw (same_refl k); small = ltb-true (mag z) (2 ^ 63) p }
       go false p = c
 
   count_sum : (j : Key) (by : ℤ) (t : Table) (n : Option ℤ) → Ascending t → Counts k t n
@@ -88,7 +86,7 @@ module _ (k : Key) where
   count_sum j by t n s c = go (same_key j k) refl
     where
       go : (b : Bool) → same_key j k ≡ b
-          → Counts k (write_all (raised j by (held (find t j))).1 t) (cond (same_key j k && is_integer (raised j by (held (find t j))).0) (some (or_zero n +ℤ by)) n)
+          → Counts k (write_all (raised j by (held (find t j))).1 t) (cond (same_key j k && is_integer (raised j by (held (find t j))).0) (Some (or_zero n +ℤ by)) n)
       go true p = rw (p, same_is j k p, c.holds, held_sum n c.small) (summed_sum (or_zero n +ℤ by) t n s c)
       go false p = rw p (other_keys (raised j by (held (find t j))).1 t n s c (raised_keys (held (find t j)) j k by p))
 
@@ -96,7 +94,7 @@ module _ (k : Key) where
       → Counts k (write_all (run (find t) c).1 t) (increment k c (run (find t) c).0 n)
   unfolding run increment set_keys any_key
   command_sum (GET j) t n s c e = other_keys [] t n s c refl
-  command_sum (SET j v) t n s c e = other_keys ((j, some v) ∷ []) t n s c e
+  command_sum (SET j v) t n s c e = other_keys ((j, Some v) ∷ []) t n s c e
   command_sum (DEL ks) t n s c e = other_keys (map tombstone ks) t n s c (rw (tombstone_keys ks) e)
   command_sum (EXISTS ks) t n s c e = other_keys [] t n s c refl
   command_sum (MGET ks) t n s c e = other_keys [] t n s c refl
@@ -145,7 +143,7 @@ pub counters : CounterClaim
 unfolding find
 counters cs l o k e =
     let d = claim cs l o in
-    ap (λ (t : Table). find t k) d.tables ∙ (history_sum k (items_of cs l) [] none tt e (record { holds = refl; small = tt })).holds
+    ap (λ (t : Table). find t k) d.tables ∙ (history_sum k (items_of cs l) [] None tt e (record { holds = refl; small = tt })).holds
 
 -- THE REPLIES THEMSELVES give that sum.
 module _ (k : Key) where
@@ -172,4 +170,4 @@ module _ (k : Key) where
   replies_sum (member ws ∷ xs) t n h = replies_sum xs (post (member ws) t) n h.1
 
 pub counter_replies_lem : CounterReplies
-counter_replies_lem cs l o k = replies_sum k (items_of cs l) [] none (claim cs l o).replies
+counter_replies_lem cs l o k = replies_sum k (items_of cs l) [] None (claim cs l o).replies

@@ -4,7 +4,7 @@ use native.Mathlib.Omega.{arith}
 use native.Mathlib.Decide.{ℕ_discrete}
 use mathlib.Core.List.{List, [], ◌∷◌, ◌++◌, append_assoc}
 use mathlib.Core.Bool.{Bool, true, false, ◌||◌}
-use mathlib.Core.Option.{none, some}
+use Rattle.std.specs.Prelude.{None, Some}
 use mathlib.Core.Path.{◌≡◌, refl, sym, ap, ◌∙◌, subst}
 use lib.Dec.{ltb, eqb}
 use lib.ListN.{length, get_or, set, length-set}
@@ -49,8 +49,8 @@ pub record Served (x : Asked) (n : ℕ) (b : Bytes) (st after : Store) (s t : Se
   pub numbers : (n ≡ 0 → ⊥) → (after ≡ st) × (t.queue ≡ s.queue) × (t.watch ≡ s.watch)
   pub follows : n ≡ 0 → (d : Client) → Mirrors d s → Follows st after t (turn_asked x b d)
   pub watch : WatchKept st s.watch t.watch
-  pub marks : (s.queue ≡ none → s.failed ≡ false) → t.failed ≡ marked_after t.queue (s.failed || marks_by s.queue x n b)
-  pub due : asks_exec x ≡ true → (q : List Args) → s.queue ≡ some q → (d : Client) → Mirrors d s → (stale : Key → Bool) → StaleIs st s.watch stale
+  pub marks : (s.queue ≡ None → s.failed ≡ false) → t.failed ≡ marked_after t.queue (s.failed || marks_by s.queue x n b)
+  pub due : asks_exec x ≡ true → (q : List Args) → s.queue ≡ Some q → (d : Client) → Mirrors d s → (stale : Key → Bool) → StaleIs st s.watch stale
       → ExecPosted s.failed (conflicted stale d) (table st.versions) q n b
   pub fresh : asks_exec x ≡ true → is_array b ≡ true → any_moved st.versions s.watch ≡ false
 

@@ -3,7 +3,7 @@ use Prim.Native.Nat.{ℕ}
 use native.Mathlib.Omega.{arith}
 use mathlib.Core.List.{List, [], ◌∷◌, ◌++◌, map}
 use mathlib.Core.Bool.{Bool, true, false, cond, ◌||◌, false≢true}
-use mathlib.Core.Option.{Option, none, some}
+use Rattle.std.specs.Prelude.{Option, None, Some}
 use mathlib.Core.Path.{◌≡◌, refl, sym, ap, ◌∙◌, fun_ext, subst}
 use lib.ListN.{length}
 use Rattle.base_key.specs.Bytes.{Bytes}
@@ -77,7 +77,7 @@ module _ (st : Store) (s : Session) (d : Client) (sound : Sound st) (good : Sess
   unfolding item_keys any_key
   no_list l b k h = absurd (false≢true h)
 
-  direct_follows : (a : Args) (x : Executed) → executed_of a ≡ x → FollowedBy st d other none a (direct x st s) (direct x st s).result
+  direct_follows : (a : Args) (x : Executed) → executed_of a ≡ x → FollowedBy st d other None a (direct x st s) (direct x st s).result
   unfolding direct turn_by
   direct_follows a (lists l) p =
       rw p (record { tables = unfold post_all post in refl; client = m; holds = unfold post in (refl, tt); quiet = λ z. some_item z; moves = λ k h. one_item _ _ k h (λ e. no_list l _ k e); keeps = λ k h. refl })
@@ -86,7 +86,7 @@ module _ (st : Store) (s : Session) (d : Client) (sound : Sound st) (good : Sess
       e : Effect
       e = run (find (table st.versions)) c
 
-      go : (v : Verdict) → FollowedBy st d other none a (committed v e st s) (committed v e st s).result
+      go : (v : Verdict) → FollowedBy st d other None a (committed v e st s) (committed v e st s).result
       go Accepted =
           unfold committed in rw p (record { tables = unfold post_all post in sym (table_commit e.1 st sound.seqs); client = m; holds = (refl, tt); quiet = λ z. some_item z; moves = λ k h. one_item _ _ k h (λ x. unfold item_keys in commit_moves e.1 st k x); keeps = λ k h. unfold item_keys in commit_keeps e.1 st k (unwritten _ [] _ k h).0 })
       go Conflict = unfold committed in tt
@@ -94,7 +94,7 @@ module _ (st : Store) (s : Session) (d : Client) (sound : Sound st) (good : Sess
       go NoSequence = unfold committed in tt
       go NotTaken = unfold committed in tt
 
-  watching_follows : (a : Args) → FollowedBy st d WATCH none a (watching (arguments a) st s) (watching (arguments a) st s).result
+  watching_follows : (a : Args) → FollowedBy st d WATCH None a (watching (arguments a) st s) (watching (arguments a) st s).result
   unfolding watching turn_by
   watching_follows a = go (watch_fits (watched_keys w))
     where
@@ -108,18 +108,18 @@ module _ (st : Store) (s : Session) (d : Client) (sound : Sound st) (good : Sess
       more : (k : Key) → among (d.watched ++ arguments a) k ≡ among (watched_keys w) k
       more k = among_append d.watched (arguments a) k ∙ ap (λ (b : Bool). b || among (arguments a) k) (m.watched k) ∙ sym (among_adds st.last (arguments a) s.watch k)
 
-      go : (b : Bool) → FollowedBy st d WATCH none a (cond b after (returns 5 st s)) (cond b after (returns 5 st s)).result
+      go : (b : Bool) → FollowedBy st d WATCH None a (cond b after (returns 5 st s)) (cond b after (returns 5 st s)).result
       go true = is_ok _ _ (record { queue = m.queue; watched = more })
       go false = tt
 
-  outside_follows : (a : Args) (c : Control) (r : Row) → FollowedBy st d c none a (outside_multi c r a st s) (outside_multi c r a st s).result
+  outside_follows : (a : Args) (c : Control) (r : Row) → FollowedBy st d c None a (outside_multi c r a st s) (outside_multi c r a st s).result
   unfolding outside_multi turn_by
   outside_follows a MULTI r = is_ok _ _ (record { queue = refl; watched = m.watched })
   outside_follows a EXEC r = still st s d m
   outside_follows a DISCARD r = not_ok _ s closed m
   outside_follows a WATCH r = go (count_right r (length (arguments a)))
     where
-      go : (b : Bool) → FollowedBy st d WATCH none a (cond b (watching (arguments a) st s) (says (arity r) st s)) (cond b (watching (arguments a) st s) (says (arity r) st s)).result
+      go : (b : Bool) → FollowedBy st d WATCH None a (cond b (watching (arguments a) st s) (says (arity r) st s)) (cond b (watching (arguments a) st s) (says (arity r) st s)).result
       go true = watching_follows a
       go false = unfold arity in not_ok _ s _ m
   outside_follows a UNWATCH r = is_ok _ _ (record { queue = m.queue; watched = λ k. refl })
@@ -127,25 +127,25 @@ module _ (st : Store) (s : Session) (d : Client) (sound : Sound st) (good : Sess
   outside_follows a other r = direct_follows a (executed_of a) refl
 
   -- INSIDE MULTI
-  enqueue_follows : (q : List Args) (a : Args) → FollowedBy st d other (some q) a (enqueue q a st s) (enqueue q a st s).result
+  enqueue_follows : (q : List Args) (a : Args) → FollowedBy st d other (Some q) a (enqueue q a st s) (enqueue q a st s).result
   unfolding enqueue turn_by
   enqueue_follows q a = go (queue_fits (q ++ a ∷ []))
     where
       after : Done
-      after = says queued_reply st (record { queue = some (q ++ a ∷ []); failed = s.failed; watch = s.watch })
+      after = says queued_reply st (record { queue = Some (q ++ a ∷ []); failed = s.failed; watch = s.watch })
 
-      go : (b : Bool) → FollowedBy st d other (some q) a (cond b after (returns 4 st (marked s))) (cond b after (returns 4 st (marked s))).result
+      go : (b : Bool) → FollowedBy st d other (Some q) a (cond b after (returns 4 st (marked s))) (cond b after (returns 4 st (marked s))).result
       go true = rw queued_told (still st _ _ (record { queue = refl; watched = m.watched }))
       go false = tt
 
-  queue_up_follows : (q : List Args) (r : Row) (a : Args) → FollowedBy st d other (some q) a (queue_up q r a st s) (queue_up q r a st s).result
+  queue_up_follows : (q : List Args) (r : Row) (a : Args) → FollowedBy st d other (Some q) a (queue_up q r a st s) (queue_up q r a st s).result
   unfolding queue_up turn_by
   queue_up_follows q r a = go (count_right r (length (arguments a))) (with_options (operation_of r.name) (length (arguments a)))
     where
       by : Bool → Bool → Done
       by b c = cond b (cond c (says set_options st (marked s)) (enqueue q a st s)) (says (arity r) st (marked s))
 
-      go : (b c : Bool) → FollowedBy st d other (some q) a (by b c) (by b c).result
+      go : (b c : Bool) → FollowedBy st d other (Some q) a (by b c) (by b c).result
       go true true = rw (error_not_queued _) (still st (marked s) d (record { queue = m.queue; watched = m.watched }))
       go true false = enqueue_follows q a
       go false c = unfold arity in rw (error_not_queued _) (still st (marked s) d (record { queue = m.queue; watched = m.watched }))
@@ -177,7 +177,7 @@ module _ (st : Store) (s : Session) (d : Client) (sound : Sound st) (good : Sess
         keeps = λ k h. commit_keeps (last_writes [] ws) st k (any_last_all (λ j. same_key j k) ws ∙ queue_other _ k ws t xs same (unwritten _ [] t k h).0);
       })
 
-  execute_follows : (q : List Args) (a : Args) → all_queueable q ≡ true → FollowedBy st d EXEC (some q) a (execute q st s) (execute q st s).result
+  execute_follows : (q : List Args) (a : Args) → all_queueable q ≡ true → FollowedBy st d EXEC (Some q) a (execute q st s) (execute q st s).result
   unfolding turn_by
   execute_follows q a queueable = go s.failed refl
     where
@@ -191,18 +191,18 @@ module _ (st : Store) (s : Session) (d : Client) (sound : Sound st) (good : Sess
           last true = still st clear closed closed_clear
           last false = still st clear closed closed_clear
 
-      by : (v : Verdict) → FollowedBy st d EXEC (some q) a (ends v (ran_by q st) (writes_by q st) st s) (ends v (ran_by q st) (writes_by q st) st s).result
+      by : (v : Verdict) → FollowedBy st d EXEC (Some q) a (ends v (ran_by q st) (writes_by q st) st s) (ends v (ran_by q st) (writes_by q st) st s).result
       by Accepted = unfold ends in exec_follows q queueable
       by Conflict = unfold ends in nil
       by NoRoom = unfold ends in tt
       by NoSequence = unfold ends in tt
       by NotTaken = unfold ends in nil
 
-      go : (f : Bool) → s.failed ≡ f → FollowedBy st d EXEC (some q) a (execute q st s) (execute q st s).result
+      go : (f : Bool) → s.failed ≡ f → FollowedBy st d EXEC (Some q) a (execute q st s) (execute q st s).result
       go true p = rw (execute_failed q st s p) abort
       go false p = rw (execute_ends q st s p) (by _)
 
-  inside_follows : (a : Args) (q : List Args) (c : Control) (r : Row) → all_queueable q ≡ true → FollowedBy st d c (some q) a (inside_multi c q r a st s) (inside_multi c q r a st s).result
+  inside_follows : (a : Args) (q : List Args) (c : Control) (r : Row) → all_queueable q ≡ true → FollowedBy st d c (Some q) a (inside_multi c q r a st s) (inside_multi c q r a st s).result
   unfolding inside_multi turn_by
   inside_follows a q EXEC r e = execute_follows q a e
   inside_follows a q DISCARD r e = is_ok clear closed closed_clear
@@ -212,7 +212,7 @@ module _ (st : Store) (s : Session) (d : Client) (sound : Sound st) (good : Sess
   inside_follows a q UNWATCH r e = unfold not_queueable in not_ok _ (marked s) _ (record { queue = m.queue; watched = m.watched })
   inside_follows a q other r e = go r.queueable
     where
-      go : (b : Bool) → FollowedBy st d other (some q) a (cond b (queue_up q r a st s) (says (not_queueable (name_word a)) st (marked s))) (cond b (queue_up q r a st s) (says (not_queueable (name_word a)) st (marked s))).result
+      go : (b : Bool) → FollowedBy st d other (Some q) a (cond b (queue_up q r a st s) (says (not_queueable (name_word a)) st (marked s))) (cond b (queue_up q r a st s) (says (not_queueable (name_word a)) st (marked s))).result
       go true = queue_up_follows q r a
       go false = unfold not_queueable in rw (error_not_queued _) (still st (marked s) d (record { queue = m.queue; watched = m.watched }))
 
@@ -223,5 +223,5 @@ module _ (st : Store) (s : Session) (d : Client) (sound : Sound st) (good : Sess
     where
       go : (q : Option (List Args)) → s.queue ≡ q
           → FollowedBy st d (control_of (row_of (name_word a)).name) q a (respond_by q (row_of (name_word a)) a st s) (respond_by q (row_of (name_word a)) a st s).result
-      go none e = outside_follows a (control_of (row_of (name_word a)).name) (row_of (name_word a))
-      go (some q) e = inside_follows a q (control_of (row_of (name_word a)).name) (row_of (name_word a)) (subst QueueHolds e good.queue).names
+      go None e = outside_follows a (control_of (row_of (name_word a)).name) (row_of (name_word a))
+      go (Some q) e = inside_follows a q (control_of (row_of (name_word a)).name) (row_of (name_word a)) (subst QueueHolds e good.queue).names

@@ -3,7 +3,7 @@
 use Prim.Native.Nat.{ℕ, ◌<◌}
 use mathlib.Core.Bool.{Bool, true, false, false≢true}
 use mathlib.Core.List.{List, [], ◌∷◌, ◌++◌}
-use mathlib.Core.Option.{none}
+use Rattle.std.specs.Prelude.{None}
 use mathlib.Core.Path.{◌≡◌, refl, sym, ap, ◌∙◌, subst}
 use Rattle.command_spec.specs.Session.{Session}
 use Rattle.call_spec.specs.Serve.{State, session_in, Outcome}
@@ -56,7 +56,7 @@ record SameCall (i : ℕ) (c : Call) (l m : Lent) : Type 0 where
 
 -- session i of `m` is outside MULTI
 abbrev Outside : ℕ → Lent → Type 0
-Outside i m = i < 16 → (session_of i m).queue ≡ none
+Outside i m = i < 16 → (session_of i m).queue ≡ None
 
 module _ (i : ℕ) (c : Call) (l m : Lent) (p : valid l ≡ true) (q : valid m ≡ true) where
   lent_same : SameOnBoth i (step c (state_in l)) (step c (state_in m)) → SameCall i c l m
@@ -68,7 +68,7 @@ module _ (i : ℕ) (c : Call) (l m : Lent) (p : valid l ≡ true) (q : valid m �
         left = on_lent i (call c l).lent (call c m).lent (rw (a.state, b.state) s.left);
       }
 
-  lent_outside : (i < 16 → (session_in i (step c (state_in m)).state).queue ≡ none) → Outside i (call c m).lent
+  lent_outside : (i < 16 → (session_in i (step c (state_in m)).state).queue ≡ None) → Outside i (call c m).lent
   lent_outside f h =
       ap (λ (x : Session). x.queue) (sym (session_at_lem (call c m).lent i h)) ∙ ap (λ (x : State). (session_in i x).queue) (call_represents c m q).state ∙ f h
 
@@ -115,7 +115,7 @@ record KeptCall (i : ℕ) (c : Call) (l m : Lent) : Type 0 where
   outside : Outside i (call c m).lent
 
 module _ (i : ℕ) (c : Call) (l m : Lent) (ds : List Client) (p : valid l ≡ true) (q : valid m ≡ true) (g : Clients (state_in l) ds) (same : SameBut i l m) (free : Outside i m) where
-  free_on : i < 16 → (session_in i (state_in m)).queue ≡ none
+  free_on : i < 16 → (session_in i (state_in m)).queue ≡ None
   free_on h = ap (λ (x : Session). x.queue) (session_at_lem m i h) ∙ free h
 
   other_kept : is_of i c ≡ false → KeptCall i c l m

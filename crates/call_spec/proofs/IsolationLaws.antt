@@ -2,7 +2,7 @@
 use Prim.Native.Nat.{ℕ, ◌<◌}
 use mathlib.Core.Bool.{Bool, true, false, cond, false≢true}
 use mathlib.Core.List.{List, [], ◌∷◌, map}
-use mathlib.Core.Option.{Option, none}
+use Rattle.std.specs.Prelude.{Option, None}
 use mathlib.Core.Path.{◌≡◌, refl, sym, ap, ◌∙◌}
 use lib.Dec.{leb, ltb}
 use lib.ListN.{length}
@@ -102,11 +102,11 @@ is_command_lem UNWATCH e = absurd (false≢true e)
 is_command_lem QUIT e = absurd (false≢true e)
 is_command_lem other e = refl
 
-command_direct : (a : Args) (st : Store) (s : Session) → is_command (control_of (row_of (name_word a)).name) ≡ true → s.queue ≡ none → respond a st s ≡ direct (executed_of a) st s
+command_direct : (a : Args) (st : Store) (s : Session) → is_command (control_of (row_of (name_word a)).name) ≡ true → s.queue ≡ None → respond a st s ≡ direct (executed_of a) st s
 unfolding respond
 command_direct a st s e n =
     let r = row_of (name_word a) in
-    let outside : respond_by none r a st s ≡ outside_multi (control_of r.name) r a st s = unfold respond_by in refl in
+    let outside : respond_by None r a st s ≡ outside_multi (control_of r.name) r a st s = unfold respond_by in refl in
     let directly : outside_multi other r a st s ≡ direct (executed_of a) st s = unfold outside_multi in refl in
     ap (λ (q : Option (List Args)). respond_by q r a st s) n ∙ outside ∙ ap (λ (c : Control). outside_multi c r a st s) (is_command_lem (control_of r.name) e) ∙ directly
 
@@ -137,7 +137,7 @@ module _ (st : Store) (s t : Session) where
       go (number n) = unfold finish_by in refl
       go (reply r) = unfold finish_by fitted in fits r (leb (length (encode r)) room)
 
-  reading_alike : (room : ℕ) (input : Bytes) (x : Reading) → asks_command (asked_by input x) ≡ true → s.queue ≡ none → t.queue ≡ none
+  reading_alike : (room : ℕ) (input : Bytes) (x : Reading) → asks_command (asked_by input x) ≡ true → s.queue ≡ None → t.queue ≡ None
       → serve_reading room input x st s ≡ served_for s (serve_reading room input x st t)
   unfolding serve_reading asked_by
   reading_alike room input waits e n m = absurd (false≢true e)
@@ -150,7 +150,7 @@ module _ (st : Store) (s t : Session) where
       command_direct a st s e n ∙ direct_alike (executed_of a) ∙ ap (done_for s) (sym (command_direct a st t e m)) in
       ap (λ (d : Done). finish room used d st s) alike ∙ finish_alike room used (respond a st t)
 
-  pub serve_alike : (places room : ℕ) (input : Bytes) → asks_command (asked_by input (read_request places input)) ≡ true → s.queue ≡ none → t.queue ≡ none
+  pub serve_alike : (places room : ℕ) (input : Bytes) → asks_command (asked_by input (read_request places input)) ≡ true → s.queue ≡ None → t.queue ≡ None
       → serve places room input st s ≡ served_for s (serve places room input st t)
   unfolding serve
   serve_alike places room input = reading_alike room input (read_request places input)

@@ -3,7 +3,7 @@
 use Prim.Native.Nat.{ℕ, ◌<◌}
 use mathlib.Core.List.{List, [], ◌∷◌}
 use mathlib.Core.Bool.{true, false}
-use mathlib.Core.Option.{none}
+use Rattle.std.specs.Prelude.{None}
 use mathlib.Core.Path.{◌≡◌, refl}
 use Rattle.store_memtable.proofs.VersionLaws.{later_refl}
 use Rattle.command_spec.specs.Session.{any_moved}
@@ -43,7 +43,7 @@ pub record Law (c : Call) (p : State) (d : Stepped) : Type 0 where
   pub stale : (i : ℕ) → i < 16 → any_moved p.store.versions (watch_in i p) ≡ true → NoneAccepted i (told c d.outcome)
   -- a session's own call leaves the others, and another's leaves it outside MULTI
   pub own : (i j : ℕ) → is_of i c ≡ true → j < 16 → (j ≡ i → ⊥) → session_in j d.state ≡ session_in j p
-  pub outside : (i : ℕ) → i < 16 → is_of i c ≡ false → (session_in i p).queue ≡ none → (session_in i d.state).queue ≡ none
+  pub outside : (i : ℕ) → i < 16 → is_of i c ≡ false → (session_in i p).queue ≡ None → (session_in i d.state).queue ≡ None
 
 -- a call that leaves the state, by what it tells
 module _ (c : Call) (p : State) (o : Outcome) (fit : Fit p) where
@@ -74,7 +74,7 @@ pub record SameOnBoth (i : ℕ) (d e : Stepped) : Type 0 where
 -- a call on two such states, which the second leaves outside MULTI
 pub record KeptStep (i : ℕ) (d e : Stepped) : Type 0 where
   pub same : SameOnBoth i d e
-  pub outside : i < 16 → (session_in i e.state).queue ≡ none
+  pub outside : i < 16 → (session_in i e.state).queue ≡ None
 
 -- EACH ANSWER that is told has no bytes, or those of one reply
 abbrev pub EachAnswered : List Event → Type 0
@@ -95,5 +95,5 @@ pub record Kind (c : Call) : Type 0 where
   pub refusals : (n : ℕ) → EachAnswered (told c (refused n))
   -- a call that is not session i's, and one of its own that posts and is no accepted EXEC
   pub other : (i : ℕ) (p q : State) → Fit p → Fit q → SameOn i p q → is_of i c ≡ false → SameOnBoth i (step c p) (step c q)
-  pub own : (i : ℕ) (p q : State) (ds : List Client) → Fit p → Fit q → Clients p ds → SameOn i p q → (i < 16 → (session_in i q).queue ≡ none) → is_of i c ≡ true
+  pub own : (i : ℕ) (p q : State) (ds : List Client) → Fit p → Fit q → Clients p ds → SameOn i p q → (i < 16 → (session_in i q).queue ≡ None) → is_of i c ≡ true
       → any_item (enter_all (told c (step c p).outcome) ds).items ≡ true → NoneAccepted i (told c (step c p).outcome) → KeptStep i (step c p) (step c q)

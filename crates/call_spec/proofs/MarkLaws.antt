@@ -3,7 +3,7 @@ use Prim.Native.Nat.{ℕ}
 use native.Mathlib.Omega.{arith}
 use mathlib.Core.List.{List, [], ◌∷◌, ◌++◌, map}
 use mathlib.Core.Bool.{Bool, true, false, cond, not, ◌||◌, ◌&&◌, and-false, or-true, or-false}
-use mathlib.Core.Option.{Option, none, some}
+use Rattle.std.specs.Prelude.{Option, None, Some}
 use mathlib.Core.Path.{◌≡◌, refl, sym}
 use lib.Dec.{leb, eqb}
 use lib.ListN.{length}
@@ -27,7 +27,7 @@ use Rattle.call_spec.specs.Posting.{broken, asks, asked_by, is_reply}
 use Rattle.call_spec.specs.Verdicts.{queues, is_open, marks_by, marked_after}
 use Rattle.call_spec.proofs.ReplyLaws.{queued_told, error_not_queued}
 
-module _ (st : Store) (s : Session) (sound : Sound st) (good : SessionSound st.last s) (free : s.queue ≡ none → s.failed ≡ false) where
+module _ (st : Store) (s : Session) (sound : Sound st) (good : SessionSound st.last s) (free : s.queue ≡ None → s.failed ≡ false) where
   abbrev pub MarkedAs : Session → Bool → Type 0
   MarkedAs t b = t.failed ≡ marked_after t.queue (s.failed || b)
 
@@ -45,8 +45,8 @@ module _ (st : Store) (s : Session) (sound : Sound st) (good : SessionSound st.l
   stays t p f b e = rw (p, f, e) (go s.queue refl)
     where
       go : (q : Option (List Args)) → s.queue ≡ q → s.failed ≡ marked_after q (s.failed || false)
-      go none n = free n
-      go (some q) n = sym (or-false s.failed)
+      go None n = free n
+      go (Some q) n = sym (or-false s.failed)
 
   watching_marks : (ks : List Key) → MarkedAs (watching ks st s).session false
   unfolding watching
@@ -71,7 +71,7 @@ module _ (st : Store) (s : Session) (sound : Sound st) (good : SessionSound st.l
       go e false n = stays s refl refl false refl
   direct_marks (lists l) = stays s refl refl false refl
 
-  outside_marks : (a : Args) (c : Control) (r : Row) → s.queue ≡ none → Marked c false (outside_multi c r a st s)
+  outside_marks : (a : Args) (c : Control) (r : Row) → s.queue ≡ None → Marked c false (outside_multi c r a st s)
   unfolding outside_multi marked_after
   outside_marks a MULTI r n = rw (free n) refl
   outside_marks a EXEC r n = stays s refl refl false refl
@@ -86,7 +86,7 @@ module _ (st : Store) (s : Session) (sound : Sound st) (good : SessionSound st.l
   outside_marks a other r n = direct_marks (executed_of a)
 
   -- INSIDE MULTI
-  execute_marks : (q : List Args) (n : s.queue ≡ some q) → Marked EXEC true (execute q st s)
+  execute_marks : (q : List Args) (n : s.queue ≡ Some q) → Marked EXEC true (execute q st s)
   unfolding marked_after
   execute_marks q n = go s.failed refl
     where
@@ -102,22 +102,22 @@ module _ (st : Store) (s : Session) (sound : Sound st) (good : SessionSound st.l
       go false p = rw (execute_ends q st s p) (by _)
 
   -- a request that marks
-  marks_it : (q : List Args) → s.queue ≡ some q → (b : Bool) → b ≡ true → MarkedAs (marked s) b
+  marks_it : (q : List Args) → s.queue ≡ Some q → (b : Bool) → b ≡ true → MarkedAs (marked s) b
   unfolding marked_after
   marks_it q n b e = rw (n, e) (sym (or-true s.failed))
 
-  enqueue_marks : (q : List Args) (a : Args) → s.queue ≡ some q → Marked other true (enqueue q a st s)
+  enqueue_marks : (q : List Args) (a : Args) → s.queue ≡ Some q → Marked other true (enqueue q a st s)
   unfolding enqueue marked_after
   enqueue_marks q a n = go (queue_fits (q ++ a ∷ []))
     where
       after : Done
-      after = says queued_reply st (record { queue = some (q ++ a ∷ []); failed = s.failed; watch = s.watch })
+      after = says queued_reply st (record { queue = Some (q ++ a ∷ []); failed = s.failed; watch = s.watch })
 
       go : (b : Bool) → Marked other true (cond b after (returns 4 st (marked s)))
       go true = rw queued_told (sym (or-false s.failed))
       go false = marks_it q n true refl
 
-  queue_up_marks : (q : List Args) (r : Row) (a : Args) → s.queue ≡ some q → Marked other true (queue_up q r a st s)
+  queue_up_marks : (q : List Args) (r : Row) (a : Args) → s.queue ≡ Some q → Marked other true (queue_up q r a st s)
   unfolding queue_up
   queue_up_marks q r a n = go (count_right r (length (arguments a))) (with_options (operation_of r.name) (length (arguments a)))
     where
@@ -126,7 +126,7 @@ module _ (st : Store) (s : Session) (sound : Sound st) (good : SessionSound st.l
       go true false = enqueue_marks q a n
       go false c = unfold arity in marks_it q n _ (rw (error_not_queued _))
 
-  inside_marks : (a : Args) (q : List Args) (c : Control) (r : Row) → s.queue ≡ some q → Marked c true (inside_multi c q r a st s)
+  inside_marks : (a : Args) (q : List Args) (c : Control) (r : Row) → s.queue ≡ Some q → Marked c true (inside_multi c q r a st s)
   unfolding inside_multi marked_after
   inside_marks a q EXEC r n = execute_marks q n
   inside_marks a q DISCARD r n = refl
@@ -145,8 +145,8 @@ module _ (st : Store) (s : Session) (sound : Sound st) (good : SessionSound st.l
   respond_marks a = go s.queue refl
     where
       go : (q : Option (List Args)) → s.queue ≡ q → Marked (control_of (row_of (name_word a)).name) (is_open q) (respond_by q (row_of (name_word a)) a st s)
-      go none n = outside_marks a (control_of (row_of (name_word a)).name) (row_of (name_word a)) n
-      go (some q) n = inside_marks a q (control_of (row_of (name_word a)).name) (row_of (name_word a)) n
+      go None n = outside_marks a (control_of (row_of (name_word a)).name) (row_of (name_word a)) n
+      go (Some q) n = inside_marks a q (control_of (row_of (name_word a)).name) (row_of (name_word a)) n
 
   finish_marks : (a : Args) (room used : ℕ) (x : Done) → Kept st s x → Marked (control_of (row_of (name_word a)).name) (is_open s.queue) x
       → MarkedAs (finish room used x st s).session (marks_by s.queue (asks a) (finish room used x st s).number (finish room used x st s).reply)

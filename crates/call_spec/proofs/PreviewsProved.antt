@@ -5,7 +5,7 @@ use mathlib.Core.Path.{◌≡◌, refl, sym, ap, ◌∙◌, subst}
 use mathlib.Core.Bool.{Bool, true, false, cond, false≢true}
 use mathlib.Core.List.{List, [], ◌∷◌, ◌++◌, map}
 use mathlib.Core.Logic.{inl, inr}
-use mathlib.Core.Option.{Option, none, some}
+use Rattle.std.specs.Prelude.{Option, None, Some}
 use lib.Dec.{leb, ltb}
 use lib.ListN.{length}
 use borrow.Author.Tests.{ltb-true, ne_eqb}
@@ -101,8 +101,8 @@ module _ (room used : ℕ) (st : Store) (s : Session) where
 
   option_agrees : (q : Option (List Args)) (r : Row) (a : Args) → control_of r.name ≡ EXEC → Agrees (previewed st.last (decide_by q room st s)) (finish room used (respond_by q r a st s) st s)
   unfolding decide_by respond_by
-  option_agrees none r a e = rw e (unfold outside_multi in reply_agrees NotTaken (err (bytes "EXEC without MULTI")) [] st s (abort_verdict _) (omega arith))
-  option_agrees (some q) r a e = rw e (unfold inside_multi in queue_agrees q)
+  option_agrees None r a e = rw e (unfold outside_multi in reply_agrees NotTaken (err (bytes "EXEC without MULTI")) [] st s (abort_verdict _) (omega arith))
+  option_agrees (Some q) r a e = rw e (unfold inside_multi in queue_agrees q)
 
   respond_agrees : (a : Args) → is_exec (control_of (row_of (name_word a)).name) ≡ true → Agrees (exec_previewed room st s) (finish room used (respond a st s) st s)
   unfolding respond decide_exec

@@ -2,7 +2,7 @@
 use Prim.Native.Nat.{ℕ}
 use mathlib.Core.Bool.{Bool, true, false, cond, ◌||◌, false≢true}
 use mathlib.Core.List.{List, [], ◌∷◌, map}
-use mathlib.Core.Option.{Option, none, some}
+use Rattle.std.specs.Prelude.{Option, None, Some}
 use mathlib.Core.Path.{◌≡◌, refl, sym, ap, ◌∙◌}
 use lib.Dec.{eqb}
 use lib.ListN.{get_or}
@@ -25,7 +25,7 @@ module _ (b : Bytes) (d : Client) where
       go true e = absurd (n e)
       go false e = refl
 
-  open_quiet : (c : Control) (q : List Args) (a : Args) → (is_exec c ≡ true → is_array b ≡ true → ⊥) → (turn_by c (some q) a b d).items ≡ []
+  open_quiet : (c : Control) (q : List Args) (a : Args) → (is_exec c ≡ true → is_array b ≡ true → ⊥) → (turn_by c (Some q) a b d).items ≡ []
   unfolding turn_by
   open_quiet MULTI q a n = refl
   open_quiet EXEC q a n = exec_quiet q (n refl)
@@ -35,7 +35,7 @@ module _ (b : Bytes) (d : Client) where
   open_quiet QUIT q a n = refl
   open_quiet other q a n = refl
 
-  closed_quiet : (c : Control) (a : Args) → is_command c ≡ false → (turn_by c none a b d).items ≡ []
+  closed_quiet : (c : Control) (a : Args) → is_command c ≡ false → (turn_by c None a b d).items ≡ []
   unfolding turn_by
   closed_quiet MULTI a e = refl
   closed_quiet EXEC a e = refl
@@ -45,7 +45,7 @@ module _ (b : Bytes) (d : Client) where
   closed_quiet QUIT a e = refl
   closed_quiet other a e = absurd (false≢true (sym e))
 
-  asked_open : (x : Asked) (q : List Args) → d.queue ≡ some q → (asks_exec x ≡ true → is_array b ≡ true → ⊥) → (turn_asked x b d).items ≡ []
+  asked_open : (x : Asked) (q : List Args) → d.queue ≡ Some q → (asks_exec x ≡ true → is_array b ≡ true → ⊥) → (turn_asked x b d).items ≡ []
   unfolding turn_asked
   asked_open nothing q e n = refl
   asked_open broken q e n = refl
@@ -53,7 +53,7 @@ module _ (b : Bytes) (d : Client) where
       let c = control_of (row_of (name_word a)).name in
       ap (λ (x : Option (List Args)). (turn_by c x a b d).items) e ∙ open_quiet c q a n
 
-  asked_closed : (x : Asked) → d.queue ≡ none → asks_command x ≡ false → (turn_asked x b d).items ≡ []
+  asked_closed : (x : Asked) → d.queue ≡ None → asks_command x ≡ false → (turn_asked x b d).items ≡ []
   unfolding turn_asked
   asked_closed nothing e n = refl
   asked_closed broken e n = refl
@@ -76,8 +76,8 @@ module _ (i : ℕ) (x : Asked) (n : ℕ) (b : Bytes) (ds : List Client) where
   unfolding enter
   number_entered h = rw (ne_eqb n 0 h, enter)
 
-  pub asked_inside : (q : List Args) → (get_or ds i closed).queue ≡ some q → (Accepts i (asked i x n b) → ⊥) → (enter (asked i x n b) ds).items ≡ []
+  pub asked_inside : (q : List Args) → (get_or ds i closed).queue ≡ Some q → (Accepts i (asked i x n b) → ⊥) → (enter (asked i x n b) ds).items ≡ []
   asked_inside q e h = asked_quiet (λ z. asked_open b (get_or ds i closed) x q e (λ y a. h (refl, z, y, a)))
 
-  pub asked_outside : (get_or ds i closed).queue ≡ none → asks_command x ≡ false → (enter (asked i x n b) ds).items ≡ []
+  pub asked_outside : (get_or ds i closed).queue ≡ None → asks_command x ≡ false → (enter (asked i x n b) ds).items ≡ []
   asked_outside e h = asked_quiet (λ z. asked_closed b (get_or ds i closed) x e h)

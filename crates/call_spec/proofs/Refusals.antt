@@ -2,7 +2,7 @@
 use Prim.Native.Nat.{ℕ, ◌+◌, ◌-◌, ◌≤◌}
 use mathlib.Core.Bool.{Bool, true, false, cond}
 use mathlib.Core.List.{List, [], ◌∷◌, map}
-use mathlib.Core.Option.{Option, none, some}
+use Rattle.std.specs.Prelude.{Option, None, Some}
 use mathlib.Core.Path.{◌≡◌, refl, ap, ◌∙◌}
 use lib.Dec.{leb, ltb, eqb}
 use lib.ListN.{length, replicate}
@@ -49,7 +49,7 @@ direct_fit : (x : Executed) (st : Store) (s : Session) → Fit (direct x st s) s
 unfolding direct verdict_alone judge
 direct_fit (runs c) st s =
     let e : Effect = run (read_at st.last st.versions) c in
-    committed_fit (conflicts none [] st.versions (held_keys (plain e.1))) (has_room st e.1) (has_sequences st e.1) e st s
+    committed_fit (conflicts None [] st.versions (held_keys (plain e.1))) (has_room st e.1) (has_sequences st e.1) e st s
 direct_fit (lists l) st s = tt
 
 either : (b : Bool) (d e : Done) (s : Session) → Fit d s → Fit e s → Fit (cond b d e) s
@@ -99,8 +99,8 @@ inside_fit other q r a st s = either r.queueable (queue_up q r a st s) _ s (queu
 
 respond_by_fit : (q : Option (List Args)) (r : Row) (a : Args) (st : Store) (s : Session) → Fit (respond_by q r a st s) s
 unfolding respond_by
-respond_by_fit none r a st s = outside_fit (control_of r.name) r a st s
-respond_by_fit (some q) r a st s = inside_fit (control_of r.name) q r a st s
+respond_by_fit None r a st s = outside_fit (control_of r.name) r a st s
+respond_by_fit (Some q) r a st s = inside_fit (control_of r.name) q r a st s
 
 respond_fit : (a : Args) (st : Store) (s : Session) → Fit (respond a st s) s
 unfolding respond

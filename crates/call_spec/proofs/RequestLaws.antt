@@ -5,7 +5,7 @@ use native.Mathlib.Decide.{ℕ_discrete}
 use mathlib.Core.Logic.{⊎_elim}
 use mathlib.Core.List.{List, [], ◌∷◌, append-nil}
 use mathlib.Core.Bool.{Bool, true, false, cond, ◌||◌, false≢true}
-use mathlib.Core.Option.{Option, none, some}
+use Rattle.std.specs.Prelude.{Option, None, Some}
 use mathlib.Core.Path.{◌≡◌, refl, sym, ap, ◌∙◌, subst}
 use lib.Dec.{ltb, eqb}
 use lib.ListN.{get_or, length-set}
@@ -201,18 +201,18 @@ items_posted : {A : Type 0} (xs : List Item) → any_item xs ≡ true → xs ≡
 items_posted xs p e = neither p (ap any_item e)
 
 record Commands (i : ℕ) (x : Asked) (ds : List Client) : Type 0 where
-  queue : (get_or ds i closed).queue ≡ none
+  queue : (get_or ds i closed).queue ≡ None
   command : asks_command x ≡ true
 
 own_commands : (i : ℕ) (x : Asked) (n : ℕ) (b : Bytes) (ds : List Client) → any_item (enter (asked i x n b) ds).items ≡ true → (Accepts i (asked i x n b) → ⊥) → Commands i x ds
 own_commands i x m b ds p n = go (get_or ds i closed).queue refl (asks_command x) refl
   where
     go : (q : Option (List Args)) → (get_or ds i closed).queue ≡ q → (t : Bool) → asks_command x ≡ t → Commands i x ds
-    go (some q) e t c = items_posted _ p (asked_inside i x m b ds q e n)
-    go none e true c = record { queue = e; command = c }
-    go none e false c = items_posted _ p (asked_outside i x m b ds e c)
+    go (Some q) e t c = items_posted _ p (asked_inside i x m b ds q e n)
+    go None e true c = record { queue = e; command = c }
+    go None e false c = items_posted _ p (asked_outside i x m b ds e c)
 
-module _ (i : ℕ) (p q : State) (ds : List Client) (fit : Fit p) (fit' : Fit q) (g : Clients p ds) (same : SameOn i p q) (free : i < 16 → (session_in i q).queue ≡ none) where
+module _ (i : ℕ) (p q : State) (ds : List Client) (fit : Fit p) (fit' : Fit q) (g : Clients p ds) (same : SameOn i p q) (free : i < 16 → (session_in i q).queue ≡ None) where
   command_kept : (s : Bytes) (places room : ℕ) (h : i < 16) → Commands i (asked_by s (read_request places s)) ds → KeptStep i (served_on i s places room p) (served_on i s places room q)
   command_kept s places room h c =
       let alike : serve places room s p.store (session_in i p) ≡ served_for (session_in i p) (serve places room s q.store (session_in i q)) =

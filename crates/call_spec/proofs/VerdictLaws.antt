@@ -4,7 +4,7 @@ use native.Mathlib.Omega.{arith}
 use native.Mathlib.Decide.{ℕ_discrete}
 use mathlib.Core.List.{List, [], ◌∷◌, map}
 use mathlib.Core.Bool.{Bool, true, false, cond, ◌||◌, false≢true}
-use mathlib.Core.Option.{Option, none, some}
+use Rattle.std.specs.Prelude.{Option, None, Some}
 use mathlib.Core.Path.{◌≡◌, refl, sym, ap, ◌∙◌, subst}
 use lib.Dec.{leb, ltb}
 use lib.ListN.{length, get_or}
@@ -68,7 +68,7 @@ module _ (st : Store) (s : Session) (sound : Sound st) (good : SessionSound st.l
       go true p = rw (execute_failed q st s p) (unfold exec_reply in refl)
       go false p = rw (execute_ends q st s p) (ends_due q queueable)
 
-  respond_due : (a : Args) (q : List Args) → is_exec (control_of (row_of (name_word a)).name) ≡ true → s.queue ≡ some q → DueHere s.failed q (respond a st s).result
+  respond_due : (a : Args) (q : List Args) → is_exec (control_of (row_of (name_word a)).name) ≡ true → s.queue ≡ Some q → DueHere s.failed q (respond a st s).result
   unfolding respond
   respond_due a q e o =
       subst (λ (x : Option (List Args)). DueHere s.failed q (respond_by x (row_of (name_word a)) a st s).result) (sym o)
@@ -92,7 +92,7 @@ module _ (st : Store) (s : Session) (sound : Sound st) (good : SessionSound st.l
       go (number n) g k = unfold finish_by in record { replies = λ z. absurd (omega (arith, k.0, z)); comes_first = λ c. absurd (false≢true (sym g ∙ c)) }
       go (reply r) g k = unfold finish_by fitted in fits r g (leb (length (encode r)) room)
 
-  reading_due : (q : List Args) (room : ℕ) (input : Bytes) (x : Reading) → s.queue ≡ some q → asks_exec (asked_by input x) ≡ true → PostedHere q (serve_reading room input x st s)
+  reading_due : (q : List Args) (room : ℕ) (input : Bytes) (x : Reading) → s.queue ≡ Some q → asks_exec (asked_by input x) ≡ true → PostedHere q (serve_reading room input x st s)
   unfolding serve_reading asked_by
   reading_due q room input waits o e = absurd (false≢true e)
   reading_due q room input too_many o e = absurd (false≢true e)
@@ -101,13 +101,13 @@ module _ (st : Store) (s : Session) (sound : Sound st) (good : SessionSound st.l
   reading_due q room input (whole (p ∷ ps) used) o e =
       finish_due q room used _ (respond_kept st s sound good (spanned input p) (map (spanned input) ps)) (respond_due (map (spanned input) (p ∷ ps)) q e o)
 
-  pub serve_due : (q : List Args) (places room : ℕ) (input : Bytes) → s.queue ≡ some q → asks_exec (asked_by input (read_request places input)) ≡ true → PostedHere q (serve places room input st s)
+  pub serve_due : (q : List Args) (places room : ℕ) (input : Bytes) → s.queue ≡ Some q → asks_exec (asked_by input (read_request places input)) ≡ true → PostedHere q (serve places room input st s)
   unfolding serve
   serve_due q places room input = reading_due q room input (read_request places input)
 
 -- ONE EVENT, for session i
 module _ (i : ℕ) (inside : i < 16) (p q : State) (ds : List Client) (fit : Fit p) (g : Clients p ds) where
-  module _ (free : (session_in i p).queue ≡ none → (session_in i p).failed ≡ false) where
+  module _ (free : (session_in i p).queue ≡ None → (session_in i p).failed ≡ false) where
     abbrev MarkedIn : Session → Bool → Type 0
     MarkedIn t b = t.failed ≡ marked_after t.queue ((session_in i p).failed || b)
 
@@ -127,7 +127,7 @@ module _ (i : ℕ) (inside : i < 16) (p q : State) (ds : List Client) (fit : Fit
         go (yes e) = subst (λ (m : ℕ). MarkedIn (session_in i q) (marks i (asked m x n b) ds)) (sym e) (own_marks x n b (subst (λ (m : ℕ). AskedLaw m x n b p q) e a))
         go (no z) = same_marks _ (a.others i inside (λ e. z (sym e))) _ (unfold marks in rw (ne_eqb j i z))
 
-  event_due : (stale : Key → Bool) → StaleIs p.store (watch_in i p) stale → (e : Event) → Happens e p q → (r : List Args) → (get_or ds i closed).queue ≡ some r
+  event_due : (stale : Key → Bool) → StaleIs p.store (watch_in i p) stale → (e : Event) → Happens e p q → (r : List Args) → (get_or ds i closed).queue ≡ Some r
       → ExecAnswered i e (session_in i p).failed (conflicted stale (get_or ds i closed)) (table p.store.versions) r
   event_due stale h (wrote ws) w r o = tt
   event_due stale h (asked j x n b) a r o = λ own exec.
@@ -137,7 +137,7 @@ module _ (i : ℕ) (inside : i < 16) (p q : State) (ds : List Client) (fit : Fit
 -- EVENTS ONE AFTER ANOTHER. Session i is marked as posting has it, and its transaction tells of the store and its watch.
 pub record Tracks (i : ℕ) (p : State) (x : Transaction) : Type 0 where
   pub failed : (session_in i p).failed ≡ x.marked
-  pub free : (session_in i p).queue ≡ none → (session_in i p).failed ≡ false
+  pub free : (session_in i p).queue ≡ None → (session_in i p).failed ≡ false
   pub tells : StaleIs p.store (watch_in i p) x.stale
 
 pub verdicts_posted : (i : ℕ) (inside : i < 16) (es : List Event) (p r : State) (ds : List Client) (t : Table) (x : Transaction) → Fit p → Clients p ds

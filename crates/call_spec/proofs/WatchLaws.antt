@@ -4,7 +4,7 @@ use native.Mathlib.Omega.{arith}
 use native.Mathlib.Decide.{ℕ_discrete}
 use mathlib.Core.List.{List, [], ◌∷◌, map}
 use mathlib.Core.Bool.{Bool, true, false, cond, ◌||◌, ◌&&◌, false≢true, or-true, or-false}
-use mathlib.Core.Option.{Option, none, some}
+use Rattle.std.specs.Prelude.{Option, None, Some}
 use mathlib.Core.Path.{◌≡◌, refl, sym, ap, ◌∙◌, subst}
 use lib.Dec.{leb, ltb}
 use lib.ListN.{length}
@@ -72,8 +72,8 @@ module _ (st : Store) (s : Session) where
 
   exec_fresh : (q : Option (List Args)) (r : Row) (a : Args) → control_of r.name ≡ EXEC → Fresh (respond_by q r a st s).result
   unfolding respond_by
-  exec_fresh none r a e = rw e (unfold outside_multi in error_fresh _)
-  exec_fresh (some q) r a e = rw e (unfold inside_multi in execute_fresh q)
+  exec_fresh None r a e = rw e (unfold outside_multi in error_fresh _)
+  exec_fresh (Some q) r a e = rw e (unfold inside_multi in execute_fresh q)
 
   respond_fresh : (a : Args) → is_exec (control_of (row_of (name_word a)).name) ≡ true → Fresh (respond a st s).result
   unfolding respond

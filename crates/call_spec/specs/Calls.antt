@@ -1,7 +1,7 @@
 -- The published calls on lent words and bytes: what each returns, and every lent word and byte afterwards.
 -- The order of the numbers is 1, 9, 8, 2, 4, 5, 6, 7, 3; a preview has 1, 9, 6, 7, 3 of them.
 use Rattle.std.specs.Prelude.{ℕ, zero, suc, ◌/◌, Bool, true, false, cond, ◌||◌, List, [], ◌∷◌, map, ◌≡◌, ltb, eqb, length, take, get_or}
-use Rattle.std.proofs.Math.Option.{Option, none, some}
+use Rattle.std.specs.Prelude.{Option, None, Some}
 use Rattle.base_key.specs.Bytes.{Bytes, ◌and◌, over_front}
 use Rattle.resp_spec.specs.Request.{read_request}
 use Rattle.resp_spec.specs.Steps.{argument_words}
@@ -183,9 +183,9 @@ pub data Call : Type 0 where
 
 -- the session that the call belongs to; a group has none
 abbrev pub owner_of : Call → Option ℕ
-owner_of (request i input places room) = some i
-owner_of (grouped ms parts d verdicts) = none
-owner_of (preview i room) = some i
+owner_of (request i input places room) = Some i
+owner_of (grouped ms parts d verdicts) = None
+owner_of (preview i room) = Some i
 
 -- THE MEANING OF A CALL, on the state. A group: 8, or the verdicts
 unfoldable pub group_on : List Member → List ℕ → Bytes → Bytes → State → Stepped

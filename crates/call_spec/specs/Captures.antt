@@ -1,6 +1,6 @@
 -- What a session receives over a list of calls, and what those bytes tell (document 02, R-11).
 use Rattle.std.specs.Prelude.{ℕ, cond, List, [], ◌∷◌, ◌++◌, map, ◌≡◌, eqb, ℤ}
-use Rattle.std.proofs.Math.Option.{Option, none}
+use Rattle.std.specs.Prelude.{Option, None}
 use Rattle.base_key.specs.Bytes.{Bytes, concat}
 use Rattle.base_key.specs.Keys.{Key}
 use Rattle.resp_spec.specs.Reply.{Reply, encode}
@@ -60,5 +60,5 @@ OneSum = (k : Key) (xs : List Item) (n m m' : Option ℤ) → SumOf k xs n m →
 -- a key that only counter commands write holds that sum
 abbrev pub CounterByReplies : Type 0
 CounterByReplies =
-    (cs : List Call) (l : Lent) → Opened l → (k : Key) → OnlyCounted k (items_of cs l) → (m : Option ℤ) → SumOf k (items_of cs l) none m →
+    (cs : List Call) (l : Lent) → Opened l → (k : Key) → OnlyCounted k (items_of cs l) → (m : Option ℤ) → SumOf k (items_of cs l) None m →
     find (table (store_of (final cs l)).versions) k ≡ text_of m

@@ -1,6 +1,6 @@
 -- Demand 3: one claim about any list of calls, from an opened store and clear sessions.
 use Rattle.std.specs.Prelude.{ℕ, ◌<◌, List, [], ◌∷◌, Bool, true, false, cond, not, ◌&&◌, ◌||◌, ◌≡◌, eqb, length, get_or, ℤ, pos, ◌+ℤ◌}
-use Rattle.std.proofs.Math.Option.{Option, none, some}
+use Rattle.std.specs.Prelude.{Option, None, Some}
 use Rattle.base_key.specs.Bytes.{Bytes}
 use Rattle.base_key.specs.Keys.{Key, same_key}
 use Rattle.base_number.specs.Decimal.{decimal}
@@ -58,8 +58,8 @@ is_integer (Array rs) = false
 
 -- no increment yet is 0
 abbrev pub or_zero : Option ℤ → ℤ
-or_zero none = pos 0
-or_zero (some n) = n
+or_zero None = pos 0
+or_zero (Some n) = n
 
 -- the sum after one command and its reply
 unfoldable pub increment : Key → Command → Reply → Option ℤ → Option ℤ
@@ -69,7 +69,7 @@ increment k (DEL ks) p n = n
 increment k (EXISTS ks) p n = n
 increment k (MGET ks) p n = n
 increment k (MSET es) p n = n
-increment k (COUNT j by) p n = cond (same_key j k && is_integer p) (some (or_zero n +ℤ by)) n
+increment k (COUNT j by) p n = cond (same_key j k && is_integer p) (Some (or_zero n +ℤ by)) n
 increment k (FIXED r) p n = n
 
 -- a listing raises nothing
@@ -106,14 +106,14 @@ OnlyCounted k (member ws ∷ xs) = (among (keys_of ws) k ≡ false) × OnlyCount
 
 -- what the key then holds: the sum's text; with no integer reply the key is absent
 abbrev pub text_of : Option ℤ → Option Value
-text_of none = none
-text_of (some n) = some (decimal n)
+text_of None = None
+text_of (Some n) = Some (decimal n)
 
 -- a key that only counter commands write holds the sum of the increments that got an integer reply
 abbrev pub CounterClaim : Type 0
 CounterClaim =
     (cs : List Call) (l : Lent) → Opened l → (k : Key) → OnlyCounted k (items_of cs l) →
-    find (table (store_of (final cs l)).versions) k ≡ text_of (sum k (items_of cs l) [] none)
+    find (table (store_of (final cs l)).versions) k ≡ text_of (sum k (items_of cs l) [] None)
 
 -- the sum after commands and their replies
 unfoldable pub increments : Key → List Executed → List Reply → Option ℤ → Option ℤ
@@ -132,7 +132,7 @@ SumOf k (member ws ∷ xs) n m = SumOf k xs n m
 
 -- the sum is that of the replies which the calls gave
 abbrev pub CounterReplies : Type 0
-CounterReplies = (cs : List Call) (l : Lent) → Opened l → (k : Key) → SumOf k (items_of cs l) none (sum k (items_of cs l) [] none)
+CounterReplies = (cs : List Call) (l : Lent) → Opened l → (k : Key) → SumOf k (items_of cs l) None (sum k (items_of cs l) [] None)
 
 -- NO EXEC IS ACCEPTED WITH A KEY MOVED SINCE ITS WATCH. An EXEC of session i that was answered by an array
 abbrev pub Accepts : ℕ → Event → Type 0
@@ -231,16 +231,16 @@ asks_command (asks a) = is_command (control_of (row_of (name_word a)).name)
 
 -- what posts nothing: inside MULTI all but an accepted EXEC, outside it all but a command, and what returns a number
 pub record Quiet : Type 0 where
-  pub inside : (i : ℕ) (x : Asked) (n : ℕ) (b : Bytes) (ds : List Client) (q : List Args) → (get_or ds i closed).queue ≡ some q →
+  pub inside : (i : ℕ) (x : Asked) (n : ℕ) (b : Bytes) (ds : List Client) (q : List Args) → (get_or ds i closed).queue ≡ Some q →
       (Accepts i (asked i x n b) → ⊥) → (enter (asked i x n b) ds).items ≡ []
-  pub outside : (i : ℕ) (x : Asked) (n : ℕ) (b : Bytes) (ds : List Client) → (get_or ds i closed).queue ≡ none → asks_command x ≡ false →
+  pub outside : (i : ℕ) (x : Asked) (n : ℕ) (b : Bytes) (ds : List Client) → (get_or ds i closed).queue ≡ None → asks_command x ≡ false →
       (enter (asked i x n b) ds).items ≡ []
   pub numbers : (c : Call) (o : Outcome) (ds : List Client) → (o.number ≡ 0 → ⊥) → (enter_all (told c o) ds).items ≡ []
 
 -- the session is there, and is session i
 abbrev pub is_session : ℕ → Option ℕ → Bool
-is_session i none = false
-is_session i (some j) = eqb j i
+is_session i None = false
+is_session i (Some j) = eqb j i
 
 -- the call is one of session i
 abbrev pub is_of : ℕ → Call → Bool
@@ -314,7 +314,7 @@ pub record UnalteredUntilExec (i : ℕ) (cs : List Call) (ds : List Client) (l m
 -- to its own commands outside MULTI: `m` is what the calls `before` left, but for session i, which is outside MULTI there.
 abbrev pub UntilExecClaim : Type 0
 UntilExecClaim =
-    (before cs : List Call) (l m : Lent) (i : ℕ) → Opened l → valid m ≡ true → SameBut i (final before l) m → (session_of i m).queue ≡ none →
+    (before cs : List Call) (l m : Lent) (i : ℕ) → Opened l → valid m ≡ true → SameBut i (final before l) m → (session_of i m).queue ≡ None →
     NoneAccepted i (events cs (outcomes cs (final before l))) → UnalteredUntilExec i cs (clients_after before l closed_clients) (final before l) m
 
 -- EVERY CALL LEAVES VALID STATE, so that from an opened store on no call returns 9.

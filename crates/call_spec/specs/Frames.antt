@@ -1,6 +1,6 @@
 -- The program `frames`: one line in, one line out.
 use Rattle.std.specs.Prelude.{ℕ, zero, suc, ◌+◌, ◌-◌, ◌*◌, ◌/◌, ◌%◌, Bool, true, false, cond, ◌&&◌, List, [], ◌∷◌, ◌++◌, leb, eqb, length, get_or, set, replicate, drop}
-use Rattle.std.proofs.Math.Option.{Option, none, some}
+use Rattle.std.specs.Prelude.{Option, None, Some}
 use Rattle.base_key.specs.Bytes.{Bytes, bytes}
 use Rattle.base_number.specs.Decimal.{digits}
 use Rattle.resp_spec.specs.Request.{Reading, waits, faulty, too_many, whole, read_request, spanned}
@@ -65,19 +65,19 @@ held_rest f = cond (leb (length f.rest) 4096) f (record { replies = f.replies; m
 
 -- LINES. A lower-case hexadecimal digit
 unfoldable pub hex_value : ℕ → Option ℕ
-hex_value b = cond (leb 48 b && leb b 57) (some (b - 48)) (cond (leb 97 b && leb b 102) (some (b - 87)) none)
+hex_value b = cond (leb 48 b && leb b 57) (Some (b - 48)) (cond (leb 97 b && leb b 102) (Some (b - 87)) None)
 
 -- a byte from two digits, in front of the rest
 unfoldable pub join_hex : Option ℕ → Option ℕ → Option Bytes → Option Bytes
-join_hex none l s = none
-join_hex (some h) none s = none
-join_hex (some h) (some l) none = none
-join_hex (some h) (some l) (some s) = some ((h * 16 + l) ∷ s)
+join_hex None l s = None
+join_hex (Some h) None s = None
+join_hex (Some h) (Some l) None = None
+join_hex (Some h) (Some l) (Some s) = Some ((h * 16 + l) ∷ s)
 
 -- the bytes of a hexadecimal text
 unfoldable pub unhex : Bytes → Option Bytes
-unhex [] = some []
-unhex (h ∷ []) = none
+unhex [] = Some []
+unhex (h ∷ []) = None
 unhex (h ∷ l ∷ s) = join_hex (hex_value h) (hex_value l) (unhex s)
 
 -- the digit of a number below 16
@@ -100,15 +100,15 @@ pub record Given : Type 0 where
 
 -- a line of the form, by its parts
 unfoldable pub given_of : Bool → ℕ → Option Bytes → Option Given
-given_of false i s = none
-given_of true i none = none
-given_of true i (some s) = cond (leb 1 (length s) && leb (length s) 4096) (some (record { session = i; input = s })) none
+given_of false i s = None
+given_of true i None = None
+given_of true i (Some s) = cond (leb 1 (length s) && leb (length s) 4096) (Some (record { session = i; input = s })) None
 
 -- a line of the form, or none
 unfoldable pub given : Bytes → Option Given
-given [] = none
-given (a ∷ []) = none
-given (a ∷ b ∷ []) = none
+given [] = None
+given (a ∷ []) = None
+given (a ∷ b ∷ []) = None
 given (a ∷ b ∷ c ∷ s) = given_of (is_digit a && is_digit b && eqb c 32) ((a - 48) * 10 + (b - 48)) (unhex s)
 
 -- the session, a space, and the hexadecimal of all replies to the frame with the mark behind them, or `-` if none
@@ -127,8 +127,8 @@ pub record Shown : Type 0 where
 
 -- a line of another form is answered `?` and changes nothing
 unfoldable pub answer_given : Option Given → Console → Shown
-answer_given none c = record { out = bytes "?"; console = c }
-answer_given (some g) c =
+answer_given None c = record { out = bytes "?"; console = c }
+answer_given (Some g) c =
     let i = g.session in
     let s = get_or c.rests i [] ++ g.input in
     let f = held_rest (requests (length s) i s c.state) in

@@ -1,6 +1,6 @@
 -- Calls made through the published functions, each on the lent memory that the last one left, as the contracts tell it.
 use Rattle.std.specs.Prelude.{ℕ, ◌*◌, ◌≤◌, ◌<◌, true, false, cond, List, [], ◌∷◌, ◌≡◌, eqb, length, take, replicate}
-use Rattle.std.proofs.Math.Option.{none}
+use Rattle.std.specs.Prelude.{None}
 use Rattle.base_key.specs.Bytes.{Bytes}
 use Rattle.base_key.specs.Keys.{Key}
 use Rattle.store_memtable.specs.Table.{find}
@@ -49,8 +49,8 @@ items_seen cs os = history cs os closed_clients
 pub record Holds (cs : List Call) (os : List Outcome) (l l' : Lent) : Type 0 where
   pub tables : table (store_of l').versions ≡ post_all (items_seen cs os) []
   pub replies : AllHold (items_seen cs os) []
-  pub counters : (k : Key) → OnlyCounted k (items_seen cs os) → find (table (store_of l').versions) k ≡ text_of (sum k (items_seen cs os) [] none)
-  pub sums : (k : Key) → SumOf k (items_seen cs os) none (sum k (items_seen cs os) [] none)
+  pub counters : (k : Key) → OnlyCounted k (items_seen cs os) → find (table (store_of l').versions) k ≡ text_of (sum k (items_seen cs os) [] None)
+  pub sums : (k : Key) → SumOf k (items_seen cs os) None (sum k (items_seen cs os) [] None)
   pub watches : (i : ℕ) (k : Key) → NoStalePosted i k (events cs os) closed_clients [] false
   pub verdicts : (i : ℕ) → VerdictsPosted i (events cs os) closed_clients [] new_transaction
   pub moved : (i : ℕ) (k : Key) → NoStaleExec i k cs l closed_clients false
@@ -94,7 +94,7 @@ pub record SeenUntilExec (i : ℕ) (cs : List Call) (ds : List Client) (os os' :
 abbrev pub MadeUntilExec : Type 0
 MadeUntilExec =
     (l l₁ l₂ m m₂ : Lent) (before cs : List Call) (os₁ os₂ os' : List Outcome) (i : ℕ)
-    → Opened l → Made l before os₁ l₁ → Made l₁ cs os₂ l₂ → valid m ≡ true → SameBut i l₁ m → (session_of i m).queue ≡ none → NoneAccepted i (events cs os₂)
+    → Opened l → Made l before os₁ l₁ → Made l₁ cs os₂ l₂ → valid m ≡ true → SameBut i l₁ m → (session_of i m).queue ≡ None → NoneAccepted i (events cs os₂)
     → Made m (kept_calls i cs os₂ (clients_after before l closed_clients)) os' m₂ → SeenUntilExec i cs (clients_after before l closed_clients) os₂ os' l₂ m₂
 
 -- all of it

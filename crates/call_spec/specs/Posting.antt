@@ -3,7 +3,7 @@
 -- Then the history: by the events, the commands carried out and the accepted members, in order of acceptance.
 -- Then the posting of a history: each item on the table that the one before it left.
 use Rattle.std.specs.Prelude.{ℕ, List, [], ◌∷◌, ◌++◌, map, Bool, true, false, cond, not, ◌&&◌, ◌||◌, ◌≡◌, get_or, set, replicate, eqb}
-use Rattle.std.proofs.Math.Option.{Option, none, some}
+use Rattle.std.specs.Prelude.{Option, None, Some}
 use Rattle.base_key.specs.Bytes.{Bytes, same_bytes}
 use Rattle.base_key.specs.Keys.{Key}
 use Rattle.resp_spec.specs.Request.{Reading, waits, faulty, too_many, whole, read_request, spanned}
@@ -81,7 +81,7 @@ pub record Client : Type 0 where
 
 -- a closed queue, and nothing watched
 abbrev pub closed : Client
-closed = record { queue = none; watched = [] }
+closed = record { queue = None; watched = [] }
 
 -- the client after a request, and what it adds to the history
 pub record Turn : Type 0 where
@@ -109,15 +109,15 @@ turn_exec q b d =
 
 -- a request that did not return a number, by its name and the client's queue
 unfoldable pub turn_by : Control → Option (List Args) → Args → Bytes → Client → Turn
-turn_by MULTI q a b d = only_if (is_reply ok b) d (record { queue = some []; watched = d.watched })
-turn_by EXEC none a b d = quietly d
-turn_by EXEC (some q) a b d = turn_exec q b d
+turn_by MULTI q a b d = only_if (is_reply ok b) d (record { queue = Some []; watched = d.watched })
+turn_by EXEC None a b d = quietly d
+turn_by EXEC (Some q) a b d = turn_exec q b d
 turn_by DISCARD q a b d = only_if (is_reply ok b) d closed
 turn_by WATCH q a b d = only_if (is_reply ok b) d (record { queue = d.queue; watched = d.watched ++ arguments a })
 turn_by UNWATCH q a b d = only_if (is_reply ok b) d (record { queue = d.queue; watched = [] })
 turn_by QUIT q a b d = quietly closed
-turn_by other none a b d = record { client = d; items = item_alone (executed_of a) b ∷ [] }
-turn_by other (some q) a b d = only_if (is_reply queued_reply b) d (record { queue = some (q ++ a ∷ []); watched = d.watched })
+turn_by other None a b d = record { client = d; items = item_alone (executed_of a) b ∷ [] }
+turn_by other (Some q) a b d = only_if (is_reply queued_reply b) d (record { queue = Some (q ++ a ∷ []); watched = d.watched })
 
 -- by what was asked; a protocol error closes the queue
 unfoldable pub turn_asked : Asked → Bytes → Client → Turn

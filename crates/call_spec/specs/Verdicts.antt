@@ -1,7 +1,7 @@
 -- What each EXEC is answered, by what the calls tell and posting's table alone (document 01, demand 3).
 -- First which keys are written, then which requests mark a session, then the answer to EXEC.
 use Rattle.std.specs.Prelude.{ℕ, List, [], ◌∷◌, ◌++◌, map, Bool, true, false, not, ◌&&◌, ◌||◌, ◌≡◌, eqb, get_or}
-use Rattle.std.proofs.Math.Option.{Option, none, some}
+use Rattle.std.specs.Prelude.{Option, None, Some}
 use Rattle.base_key.specs.Bytes.{Bytes}
 use Rattle.base_key.specs.Keys.{Key}
 use Rattle.resp_spec.specs.Reply.{Reply, NilArray, array, encode}
@@ -53,8 +53,8 @@ refused_queue (asks a) b = queues (control_of (row_of (name_word a)).name) && no
 
 -- inside MULTI
 abbrev pub is_open : Option (List Args) → Bool
-is_open none = false
-is_open (some q) = true
+is_open None = false
+is_open (Some q) = true
 
 -- a request inside MULTI marks its session if it returns 4 or is refused
 abbrev pub marks_by : Option (List Args) → Asked → ℕ → Bytes → Bool
@@ -80,8 +80,8 @@ stale_in i k e t stale = among (get_or e.clients i closed).watched k && (stale |
 
 -- outside MULTI there is no mark
 unfoldable pub marked_after : Option (List Args) → Bool → Bool
-marked_after none marked = false
-marked_after (some q) marked = marked
+marked_after None marked = false
+marked_after (Some q) marked = marked
 
 -- after an event; `t` is posting's table before it
 abbrev pub transaction_after : ℕ → Event → List Client → Table → Transaction → Transaction
@@ -130,5 +130,5 @@ ExecAnswered i (wrote ws) marked conflict t q = Unit {0}
 abbrev pub VerdictsPosted : ℕ → List Event → List Client → Table → Transaction → Type 0
 VerdictsPosted i [] ds t x = Unit {0}
 VerdictsPosted i (e ∷ es) ds t x =
-    ((q : List Args) → (get_or ds i closed).queue ≡ some q → ExecAnswered i e x.marked (conflicted x.stale (get_or ds i closed)) t q)
+    ((q : List Args) → (get_or ds i closed).queue ≡ Some q → ExecAnswered i e x.marked (conflicted x.stale (get_or ds i closed)) t q)
     × VerdictsPosted i es (enter e ds).clients (post_all (enter e ds).items t) (transaction_after i e ds t x)

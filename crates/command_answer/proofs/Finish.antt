@@ -6,8 +6,6 @@ use mathlib.Core.List.{◌++◌}
 use lib.ListN.{length, drop, replicate}
 use borrow.Author.Tests.{le-leb, lt-leb}
 use Rattle.base_key.specs.Bytes.{Bytes}
-use Rattle.base_writing.specs.declared.Put.{Put}
-use Rattle.base_writing.specs.declared.Put.TheVariants.{Wrote, Full}
 use Rattle.base_writing.specs.Puts.{Puts}
 use Rattle.base_writing.proofs.Puts.{was_wrote, was_full}
 use Rattle.resp_spec.specs.Reply.{Reply, encode}
@@ -15,6 +13,7 @@ use Rattle.store_memtable.specs.Versions.{Store}
 use Rattle.command_spec.specs.Session.{Session, says}
 use Rattle.command_spec.specs.Finish.{Served, silent, fitted, finish_by, finish, reply_buffer, Says}
 use Rattle.command_answer.specs.Answers.{refusal}
+use Rattle.std.specs.Prelude.{Option, None, Some}
 
 -- a cleared buffer
 abbrev pub Cleared : Bytes → Type 0
@@ -29,8 +28,8 @@ drop_replicate zero n = let e : n ≡ n - 0 = omega arith in ap (λ (m : ℕ). r
 drop_replicate (suc k) zero = let e : 0 ≡ 0 - suc k = omega arith in ap (λ (m : ℕ). replicate m 0) e
 drop_replicate (suc k) (suc n) = let e : n - k ≡ suc n - suc k = omega arith in drop_replicate k n ∙ ap (λ (m : ℕ). replicate m 0) e
 
-module _ {out out' : Bytes} {put : Put} (r : Reply) (p : Puts (encode r) out put out') (used : ℕ) (st st' : Store) (s s' : Session) where
-  module _ {k : ℕ} (e : put ≡ Wrote k) where
+module _ {out out' : Bytes} {put : Option ℕ} (r : Reply) (p : Puts (encode r) out put out') (used : ℕ) (st st' : Store) (s s' : Session) where
+  module _ {k : ℕ} (e : put ≡ Some k) where
     pub finish_wrote : finish (length out) used (says r st' s') st s ≡ replied used (encode r) st' s'
     unfolding finish finish_by fitted
     finish_wrote = let h = was_wrote p e in rw (le-leb (length (encode r)) (length out) (omega (arith, h.count, h.fits)))
@@ -45,7 +44,7 @@ module _ {out out' : Bytes} {put : Put} (r : Reply) (p : Puts (encode r) out put
               ∙ ap (λ (n : ℕ). encode r ++ replicate (length out - n) 0) h.count;
         }
 
-  module _ (e : put ≡ Full) where
+  module _ (e : put ≡ None) where
     pub finish_full : finish (length out) used (says r st' s') st s ≡ silent 3 0 st s
     unfolding finish finish_by fitted
     finish_full = let h = was_full p e in rw (lt-leb (length (encode r)) (length out) h.long)

@@ -4,7 +4,6 @@
 ghost use Rattle.std.specs.Prelude.{◌≡◌, length, replicate};
 ghost use Rattle.command_answer.specs.Answers.{refusal, put_answer};
 
-use base_writing::Put;
 use command_spec::Answer;
 
 // An answer without reply.
@@ -12,22 +11,23 @@ pub fn refusal(number: u64) -> Answer
     ensures { result ≡ refusal number }
 {
     Answer {
-        number: number,
+        number,
         used: 0,
         reply: 0,
     }
 }
 
 // The answer to a request whose reply was put: 3 where it does not fit.
-pub fn put_answer(put: Put, used: usize) -> Answer
+#[tactic(auto, unfolding(crate::specs::Answers::put_answer))]
+pub fn put_answer(put: Option<usize>, used: usize) -> Answer
     ensures { result ≡ put_answer put used }
 {
-    let Put::Wrote(n) = put else {
+    let Some(n) = put else {
         return refusal(3);
     };
     Answer {
         number: 0,
-        used: used,
+        used,
         reply: n,
     }
 }

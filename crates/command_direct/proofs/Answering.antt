@@ -6,7 +6,6 @@ use lib.IntN.{pos}
 use Rattle.command_meaning.proofs.KindLaws.{least_one}
 use Rattle.command_spec.proofs.PlaceLaws.{arguments_of, name_of}
 use Rattle.base_key.specs.Bytes.{Bytes}
-use Rattle.base_writing.specs.declared.Put.{Put}
 use Rattle.base_writing.specs.Puts.{Puts}
 use Rattle.base_writing.proofs.Puts.{same_text}
 use Rattle.resp_spec.specs.Reply.{Reply, Integer, BulkString, bulk_or, encode}
@@ -22,9 +21,10 @@ use Rattle.command_meaning.specs.declared.Refusal.TheVariants as refusal
 use Rattle.command_meaning.specs.Meant.{refusal_reply}
 use Rattle.command_meaning.specs.Kinds.{live_reply, read_reply, least_read}
 use Rattle.command_room.specs.Reading.{last_reader, values_reply}
+use Rattle.std.specs.Prelude.{Option}
 
 -- EACH REPLY
-module _ (w : List ℕ) (b : Bytes) (p : List ℕ) (d : Bytes) (count : ℕ) (q : Read) {out out' : Bytes} {put : Put} where
+module _ (w : List ℕ) (b : Bytes) (p : List ℕ) (d : Bytes) (count : ℕ) (q : Read) {out out' : Bytes} {put : Option ℕ} where
   as_reply : {x : Reply} {t : Read} → q ≡ t → x ≡ read_reply t (last_reader w b) (arguments_at 0 count p d) → Puts (encode x) out put out'
       → Puts (encode (read_reply q (last_reader w b) (arguments_at 0 count p d))) out put out'
   as_reply e x-is a =
@@ -56,7 +56,7 @@ module _ (w : List ℕ) (b : Bytes) (p : List ℕ) (d : Bytes) (count : ℕ) (q 
   read_says e a = as_reply e refl a
 
 -- EACH ERROR
-module _ (p : List ℕ) (d : Bytes) (count : ℕ) (q : Refusal) {out out' : Bytes} {put : Put} where
+module _ (p : List ℕ) (d : Bytes) (count : ℕ) (q : Refusal) {out out' : Bytes} {put : Option ℕ} where
   as_error : {x : Reply} {t : Refusal} → q ≡ t → x ≡ refusal_reply t (arguments_at 0 count p d) → Puts (encode x) out put out'
       → Puts (encode (refusal_reply q (arguments_at 0 count p d))) out put out'
   as_error e x-is a = same_text (ap encode (ap (λ (t : Refusal). refusal_reply t (arguments_at 0 count p d)) e ∙ sym x-is)) a

@@ -5,7 +5,7 @@ use native.Mathlib.Omega.{arith}
 use mathlib.Core.Path.{◌≡◌, refl, sym, ap, ◌∙◌, subst}
 use mathlib.Core.Bool.{true}
 use mathlib.Core.List.{List, [], ◌∷◌, ◌++◌}
-use mathlib.Core.Option.{some}
+use Rattle.std.specs.Prelude.{Some}
 use lib.ListN.{length, take, drop, replicate}
 use lib.Seq.{take_at}
 use lib.Signed.{mag}
@@ -13,21 +13,16 @@ use Rattle.base_key.specs.Bytes.{Bytes, total}
 use Rattle.base_key.specs.Keys.{Key}
 use Rattle.base_number.specs.Decimal.{decimal}
 use Rattle.base_number.proofs.Decimals.{decimal_few}
-use Rattle.base_writing.specs.declared.Put.{Put}
-use Rattle.base_writing.specs.declared.Put.TheVariants.{Wrote, Full}
 use Rattle.base_writing.specs.Puts.{Puts, Adds}
 use lib.IntN.{ℤ, pos, ◌+ℤ◌}
 use Rattle.base_writing.proofs.Puts.{same_text, then_puts, was_wrote, was_full, length_kept}
 use Rattle.resp_spec.specs.Reply.{Reply, Integer, ok, crlf, encode}
-use Rattle.store_memtable.specs.declared.open.Left.{Left}
 use Rattle.store_memtable.specs.Table.{Write}
 use Rattle.store_memtable.specs.Versions.{bytes_of, writes_size, commit_one, commit}
 use Rattle.store_memtable.specs.Layout.{used_word, most_bytes_word, store_in, leave_words, leave_bytes}
 use Rattle.store_memtable.specs.Rows.{Valid, RoomForOne, value_if, bytes_left}
 use Rattle.group_spec.specs.declared.Verdict.{Verdict}
 use Rattle.command_spec.specs.declared.Answer.{Answer}
-use Rattle.base_number.specs.declared.Number.{Number}
-use Rattle.base_number.specs.declared.Number.TheVariants.{Int, Bad}
 use Rattle.base_number.specs.Number.{number_of}
 use Rattle.command_lookup.proofs.Counters.{raised_bad, raised_over, raised_to}
 use Rattle.command_spec.specs.declared.Fixed.TheVariants.{Ok, NotInteger, Overflow}
@@ -41,6 +36,7 @@ use Rattle.command_room.specs.Served.{buffer_after, Runs, Admitted, deletion, co
 use Rattle.command_room.proofs.Writes.{pair_room, pair_words, pair_bytes}
 use Rattle.command_answer.proofs.Finish.{Cleared}
 use Rattle.command_room.proofs.Served.{verdict_is, accepted_room, runs_written, runs_refused, answer_accepted}
+use Rattle.std.specs.Prelude.{Option, None}
 
 -- what was admitted, and then committed
 module _ {p : Reply} {ws : List Write} {used : ℕ} {out : Bytes} {w b : List ℕ} {r : Answer} {out' : Bytes} (a : Admitted (p, ws) used out w b r out') where
@@ -55,7 +51,7 @@ module _ {p : Reply} {ws : List Write} {used : ℕ} {out : Bytes} {w b : List �
   admitted_refused z = a.refused z
 
 -- ADMITTING writes of `n` versions, by the steps that the code takes
-pub admits : (e : Effect) (w b : List ℕ) (used n : ℕ) {out mid out' : Bytes} {put : Put} {left : Left} {v : Verdict} {r : Answer}
+pub admits : (e : Effect) (w b : List ℕ) (used n : ℕ) {out mid out' : Bytes} {put : Option ℕ} {left : Option ℕ} {v : Verdict} {r : Answer}
     → Puts (encode e.0) out put mid → n ≡ length e.1 → left ≡ bytes_left (most_bytes_word w - used_word w) (writes_size e.1) → v ≡ verdict_left w n left
     → r ≡ verdict_answer v put used → out' ≡ buffer_after v mid → Valid w b → Cleared out → Admitted e used out w b r out'
 admits e w b used n {put = put} {v = v} puts n-is left_is v-is r-is o_is valid c =
@@ -67,7 +63,7 @@ admits e w b used n {put = put} {v = v} puts n-is left_is v-is r-is o_is valid c
     }
 
 -- SET and MSET
-pub admits_pairs : (p : List ℕ) (s : Bytes) (pairs used : ℕ) (w b : List ℕ) {out mid out' : Bytes} {put : Put} {free : ℕ} {left : Left} {v : Verdict} {r : Answer}
+pub admits_pairs : (p : List ℕ) (s : Bytes) (pairs used : ℕ) (w b : List ℕ) {out mid out' : Bytes} {put : Option ℕ} {free : ℕ} {left : Option ℕ} {v : Verdict} {r : Answer}
     → Puts (encode (fixed_reply Ok)) out put mid → free ≡ most_bytes_word w - used_word w
     → left ≡ bytes_left free (total (lengths_at 1 (1 + 2 * pairs - 1) p)) → v ≡ verdict_left w pairs left
     → r ≡ verdict_answer v put used → out' ≡ buffer_after v mid → Valid w b → PartsIn p s (1 + 2 * pairs) → out ≡ replicate (length out) 0
@@ -83,11 +79,11 @@ admits_pairs p s pairs used w b puts free-is left_is v-is r-is o_is valid q c =
 pub live_fits : (w : List ℕ) (b : Bytes) (p : List ℕ) (s : Bytes) (count : ℕ) {n : ℕ} → LiveIs w b (arguments_at 1 (count - 1) p s) n → PartsIn p s count → length p < 2 ^ 64 → n < 2 ^ 63
 live_fits w b p s count l q h = omega (arith, l.few, arguments_count 1 (count - 1) p s, q.table)
 
-pub live_put : (w b : List ℕ) (ks : List Key) {n : ℕ} {out out' : Bytes} {put : Put} → LiveIs w b ks n → Puts (encode (Integer (pos n))) out put out'
+pub live_put : (w b : List ℕ) (ks : List Key) {n : ℕ} {out out' : Bytes} {put : Option ℕ} → LiveIs w b ks n → Puts (encode (Integer (pos n))) out put out'
     → Puts (encode (Integer (pos (live (last_reader w b) ks)))) out put out'
 live_put w b ks l puts = same_text (ap (λ (m : ℕ). encode (Integer (pos m))) (sym l.is)) puts
 
-pub admits_tombstones : (p : List ℕ) (s : Bytes) (count used : ℕ) (w b : List ℕ) {out mid out' : Bytes} {put : Put} {free : ℕ} {left : Left} {v : Verdict} {r : Answer}
+pub admits_tombstones : (p : List ℕ) (s : Bytes) (count used : ℕ) (w b : List ℕ) {out mid out' : Bytes} {put : Option ℕ} {free : ℕ} {left : Option ℕ} {v : Verdict} {r : Answer}
     → Puts (encode (Integer (pos (live (last_reader w b) (arguments_at 1 (count - 1) p s))))) out put mid → free ≡ most_bytes_word w - used_word w
     → left ≡ bytes_left free (total (lengths_at 1 (count - 1) p)) → v ≡ verdict_left w (count - 1) left
     → r ≡ verdict_answer v put used → out' ≡ buffer_after v mid → Valid w b → 1 ≤ count → PartsIn p s count → out ≡ replicate (length out) 0
@@ -114,26 +110,26 @@ module _ (p : List ℕ) (s : Bytes) (count used : ℕ) {out : Bytes} {w b : List
   deletion_refused z = a.refused z
 
 -- COUNTERS
-pub integer_text_lem : (text : Bytes) {out m₁ m₂ out' : Bytes} {p q r : Put} → Puts (58 ∷ []) out p m₁ → Adds text p m₁ q m₂ → Adds (13 ∷ 10 ∷ []) q m₂ r out' → Puts (integer_text text) out r out'
+pub integer_text_lem : (text : Bytes) {out m₁ m₂ out' : Bytes} {p q r : Option ℕ} → Puts (58 ∷ []) out p m₁ → Adds text p m₁ q m₂ → Adds (13 ∷ 10 ∷ []) q m₂ r out' → Puts (integer_text text) out r out'
 unfolding integer_text
 integer_text_lem text a b c = same_text refl (then_puts (then_puts a b) c)
 
-one_size : (k text : Bytes) → length k + length text ≡ writes_size ((k, some text) ∷ [])
+one_size : (k text : Bytes) → length k + length text ≡ writes_size ((k, Some text) ∷ [])
 unfolding writes_size
 one_size k text = sym (add-zero (length k + length text))
 
 module _ (k text : Bytes) (used : ℕ) (w b : List ℕ) {out : Bytes} where
-  pub admits_text : {mid out' : Bytes} {put : Put} {free : ℕ} {left : Left} {v : Verdict} {r : Answer}
+  pub admits_text : {mid out' : Bytes} {put : Option ℕ} {free : ℕ} {left : Option ℕ} {v : Verdict} {r : Answer}
       → Puts (integer_text text) out put mid → free ≡ most_bytes_word w - used_word w → left ≡ bytes_left free (length k + length text)
       → v ≡ verdict_left w 1 left → r ≡ verdict_answer v put used → out' ≡ buffer_after v mid → Valid w b → out ≡ replicate (length out) 0
       → AdmittedText k text used out w b r out'
   unfolding counted integer_text encode
   admits_text {mid} {out'} {put} {free} {left} {v} {r} puts free-is left_is v-is r-is o_is valid c =
-      let l : left ≡ bytes_left (most_bytes_word w - used_word w) (writes_size ((k, some text) ∷ [])) = left_is ∙ (λ i. bytes_left (free-is i) (one_size k text i)) in
+      let l : left ≡ bytes_left (most_bytes_word w - used_word w) (writes_size ((k, Some text) ∷ [])) = left_is ∙ (λ i. bytes_left (free-is i) (one_size k text i)) in
       record {
-        is = λ n e. admits (Integer n, (k, some (decimal n)) ∷ []) w b used 1 (same_text (ap (λ (x : Bytes). 58 ∷ x ++ crlf) (sym e)) puts) refl
-            (l ∙ ap (λ (x : Bytes). bytes_left (most_bytes_word w - used_word w) (writes_size ((k, some x) ∷ []))) e) v-is r-is o_is valid c;
-        room = λ z. accepted_room w ((k, some text) ∷ []) refl l valid.used_fits (sym v-is ∙ answer_accepted v put used r-is z);
+        is = λ n e. admits (Integer n, (k, Some (decimal n)) ∷ []) w b used 1 (same_text (ap (λ (x : Bytes). 58 ∷ x ++ crlf) (sym e)) puts) refl
+            (l ∙ ap (λ (x : Bytes). bytes_left (most_bytes_word w - used_word w) (writes_size ((k, Some x) ∷ []))) e) v-is r-is o_is valid c;
+        room = λ z. accepted_room w ((k, Some text) ∷ []) refl l valid.used_fits (sym v-is ∙ answer_accepted v put used r-is z);
       }
 
   module _ {r : Answer} {out' : Bytes} (a : AdmittedText k text used out w b r out') where
@@ -149,11 +145,11 @@ module _ (k text : Bytes) (used : ℕ) (w b : List ℕ) {out : Bytes} where
     text_refused z = record { is = λ n e. (a.is n e).refused z }
 
 -- the text of a number of i64 fits into 20 bytes
-module _ {z n : ℤ} {entry exit : Bytes} {put : Put} (z-is : z ≡ n) (small : mag n < 2 ^ 63) (long : length entry ≡ 20) (p : Puts (decimal z) entry put exit) where
-  pub number_fits : {A : Type 0} → put ≡ Full → A
+module _ {z n : ℤ} {entry exit : Bytes} {put : Option ℕ} (z-is : z ≡ n) (small : mag n < 2 ^ 63) (long : length entry ≡ 20) (p : Puts (decimal z) entry put exit) where
+  pub number_fits : {A : Type 0} → put ≡ None → A
   number_fits e = let f = decimal_few n small in let g = ap (λ (x : ℤ). length (decimal x)) z-is in let h = (was_full p e).long in absurd (omega arith)
 
-  module _ {len : ℕ} (e : put ≡ Wrote len) where
+  module _ {len : ℕ} (e : put ≡ Some len) where
     pub number_within : len ≤ length exit
     number_within = let w = was_wrote p e in let k = length_kept p in omega (arith, w.fits)
 
@@ -167,20 +163,20 @@ pub number_runs : (k : Key) (n : ℤ) (text : Bytes) {used : ℕ} {out : Bytes} 
 number_runs k n text e a = a.is n e
 
 -- COUNTERS by the number read and the checked sum
-module _ (k : Key) (by : ℤ) (w b : List ℕ) (used : ℕ) {out : Bytes} {h : Number} (h-is : h ≡ held (last_reader w b k)) {r : Answer} {out' : Bytes} where
+module _ (k : Key) (by : ℤ) (w b : List ℕ) (used : ℕ) {out : Bytes} {h : Option ℤ} (h-is : h ≡ held (last_reader w b k)) {r : Answer} {out' : Bytes} where
   raised_as : {e : Effect} {w' b' : List ℕ} → raised k by h ≡ e → Runs e used out w b r out' w' b' → Runs (raised k by (held (last_reader w b k))) used out w b r out' w' b'
   raised_as {w' = w'} {b'} e-is a = subst (λ (f : Effect). Runs f used out w b r out' w' b') (sym e-is ∙ ap (raised k by) h-is) a
 
-  pub raised_no_integer : h ≡ Bad → Runs (fixed_reply NotInteger, []) used out w b r out' w b → Runs (raised k by (held (last_reader w b k))) used out w b r out' w b
+  pub raised_no_integer : h ≡ None → Runs (fixed_reply NotInteger, []) used out w b r out' w b → Runs (raised k by (held (last_reader w b k))) used out w b r out' w b
   unfolding fixed_reply
   raised_no_integer e a = raised_as (raised_bad k by e) a
 
   -- m and c are n and `by` as the sum reads them
-  module _ {n m c : ℤ} {sum : Number} (is : h ≡ Int n) (m-is : m ≡ n) (c-is : c ≡ by) (sum_is_lem : sum ≡ number_of (m +ℤ c)) where
-    pub raised_overflow : sum ≡ Bad → Runs (fixed_reply Overflow, []) used out w b r out' w b → Runs (raised k by (held (last_reader w b k))) used out w b r out' w b
+  module _ {n m c : ℤ} {sum : Option ℤ} (is : h ≡ Some n) (m-is : m ≡ n) (c-is : c ≡ by) (sum_is_lem : sum ≡ number_of (m +ℤ c)) where
+    pub raised_overflow : sum ≡ None → Runs (fixed_reply Overflow, []) used out w b r out' w b → Runs (raised k by (held (last_reader w b k))) used out w b r out' w b
     unfolding fixed_reply
     raised_overflow e a = raised_as (raised_over k by is m-is c-is sum_is_lem e) a
 
-    pub raised_runs : {x y : ℤ} {w' b' : List ℕ} → sum ≡ Int x → y ≡ x → Runs (counted k y) used out w b r out' w' b' → Runs (raised k by (held (last_reader w b k))) used out w b r out' w' b'
+    pub raised_runs : {x y : ℤ} {w' b' : List ℕ} → sum ≡ Some x → y ≡ x → Runs (counted k y) used out w b r out' w' b' → Runs (raised k by (held (last_reader w b k))) used out w b r out' w' b'
     unfolding counted
     raised_runs e y-is a = raised_as (raised_to k by is m-is c-is sum_is_lem e ∙ sym (ap (counted k) y-is)) a

@@ -3,11 +3,9 @@ use Prim.Native.Nat.{ℕ, zero, suc, ◌≤◌, ◌<◌, ◌^◌}
 use native.Mathlib.Omega.{arith}
 use mathlib.Core.Path.{◌≡◌, refl, sym, ap, ◌∙◌}
 use mathlib.Core.List.{List}
-use mathlib.Core.Option.{some}
+use Rattle.std.specs.Prelude.{Some}
 use lib.ListN.{length, replicate}
 use Rattle.base_key.specs.Bytes.{Bytes, bytes}
-use Rattle.base_writing.specs.declared.Put.{Put}
-use Rattle.base_writing.specs.declared.Put.TheVariants.{Wrote, Full}
 use Rattle.base_writing.specs.Puts.{Puts}
 use Rattle.base_writing.proofs.Puts.{same_text}
 use Rattle.resp_spec.specs.Reply.{encode}
@@ -27,6 +25,7 @@ use Rattle.command_meaning.specs.declared.Listing.{Listing as CodeListing}
 use Rattle.command_meaning.specs.declared.Listing.TheVariants as listing
 use Rattle.command_meaning.specs.Meant.{listing_meant, pattern_at, ListingCounted}
 use Rattle.command_room.specs.Served.{Answers}
+use Rattle.std.specs.Prelude.{Option, None}
 
 -- THE ARGUMENT COUNT of each
 module _ {l : CodeListing} {count : ℕ} (h : ListingCounted l count) where
@@ -51,7 +50,7 @@ pub count_small : {w b : List ℕ} → Valid w b → length w < 2 ^ 64 → count
 count_small v h = omega (arith, v.count_fits, v.words_hold)
 
 -- THE REPLY OF EACH
-module _ (w b : List ℕ) {out out' : Bytes} {put : Put} where
+module _ (w b : List ℕ) {out out' : Bytes} {put : Option ℕ} where
   -- SCAN: the pattern of place 0 is `*`
   module _ (a : Args) (from most pattern : ℕ) where
     pub scan_all : pattern ≡ 0 → Puts (encode (answer_listing (table (versions_in w b)) (SCAN from (bytes "*") most))) out put out'
@@ -69,9 +68,9 @@ module _ (w b : List ℕ) {out out' : Bytes} {put : Put} where
         named (suc n) f = refl
 
   -- RANGE
-  pub range_argued : (start end : Bytes) (limit : ℕ) {s e : Bytes} → s ≡ start → e ≡ end → Puts (encode (answer_listing (table (versions_in w b)) (RANGE s e (some limit)))) out put out'
-      → Puts (encode (answer_listing (table (versions_in w b)) (RANGE start end (some limit)))) out put out'
-  range_argued start end limit s-is e-is x = same_text (λ i. encode (answer_listing (table (versions_in w b)) (RANGE (sym s-is i) (sym e-is i) (some limit)))) x
+  pub range_argued : (start end : Bytes) (limit : ℕ) {s e : Bytes} → s ≡ start → e ≡ end → Puts (encode (answer_listing (table (versions_in w b)) (RANGE s e (Some limit)))) out put out'
+      → Puts (encode (answer_listing (table (versions_in w b)) (RANGE start end (Some limit)))) out put out'
+  range_argued start end limit s-is e-is x = same_text (λ i. encode (answer_listing (table (versions_in w b)) (RANGE (sym s-is i) (sym e-is i) (Some limit)))) x
 
   -- by what it means
   module _ (a : Args) (l : CodeListing) where
@@ -96,18 +95,18 @@ module _ (w b : List ℕ) {out out' : Bytes} {put : Put} where
     lists_scan e x = as_listing e refl x
 
     pub lists_range : Valid w b → length w < 2 ^ 64 → l ≡ listing.Range
-        → Puts (encode (answer_listing (table (versions_in w b)) (RANGE (argument 1 a) (argument 2 a) (some 18446744073709551615)))) out put out'
+        → Puts (encode (answer_listing (table (versions_in w b)) (RANGE (argument 1 a) (argument 2 a) (Some 18446744073709551615)))) out put out'
         → Puts (encode (answer_listing (table (versions_in w b)) (listing_meant l a))) out put out'
     unfolding listing_meant
     lists_range v h e x = as_listing e refl (same_text (ap encode (range_unlimited w b (argument 1 a) (argument 2 a) v (count_small v h))) x)
 
-    pub lists_range_up : {n : ℕ} → l ≡ listing.RangeUpTo n → Puts (encode (answer_listing (table (versions_in w b)) (RANGE (argument 1 a) (argument 2 a) (some n)))) out put out'
+    pub lists_range_up : {n : ℕ} → l ≡ listing.RangeUpTo n → Puts (encode (answer_listing (table (versions_in w b)) (RANGE (argument 1 a) (argument 2 a) (Some n)))) out put out'
         → Puts (encode (answer_listing (table (versions_in w b)) (listing_meant l a))) out put out'
     unfolding listing_meant
     lists_range_up e x = as_listing e refl x
 
 -- THE CALL: a reply that leaves the store
-pub lists_answer : (l : Listing) (w b : List ℕ) (used : ℕ) {out out' : Bytes} {put : Put} {r : Answer} → Valid w b → out ≡ replicate (length out) 0
+pub lists_answer : (l : Listing) (w b : List ℕ) (used : ℕ) {out out' : Bytes} {put : Option ℕ} {r : Answer} → Valid w b → out ≡ replicate (length out) 0
     → Puts (encode (answer_listing (table (versions_in w b)) l)) out put out' → r ≡ put_answer put used → Answers (lists l) used out w b r out' w b
 unfolding direct store_in put_answer
 lists_answer l w b used {out} {out'} {put} {r} v c p r-is = record { says = λ s. (go put refl s r-is).0; left = λ s. (go put refl s r-is).1 }
@@ -117,10 +116,10 @@ lists_answer l w b used {out} {out'} {put} {r} v c p r-is = record { says = λ s
         Says (finish (length out) used (direct (lists l) (store_in w b) s) (store_in w b) s) out r out'
         × StoreLeft (finish (length out) used (direct (lists l) (store_in w b) s) (store_in w b) s) w b w b
 
-    go : (q : Put) → put ≡ q → (s : Session) → r ≡ put_answer q used → Both s
-    go (Wrote k) q-is s a =
+    go : (q : Option ℕ) → put ≡ q → (s : Session) → r ≡ put_answer q used → Both s
+    go (Some k) q-is s a =
         rw (finish_wrote (answer_listing (table (versions_in w b)) l) p used (store_in w b) (store_in w b) s s q-is, a)
         (says_wrote (answer_listing (table (versions_in w b)) l) p used (store_in w b) (store_in w b) s s q-is c, record { words = sym (leave_words_same w b v); bytes = sym (leave_bytes_same w b v) })
-    go Full q-is s a =
+    go None q-is s a =
         rw (finish_full (answer_listing (table (versions_in w b)) l) p used (store_in w b) (store_in w b) s s q-is, a)
         (says_number 3 (store_in w b) s out out' (full_cleared (answer_listing (table (versions_in w b)) l) p used (store_in w b) (store_in w b) s s q-is), record { words = sym (leave_words_same w b v); bytes = sym (leave_bytes_same w b v) })

@@ -1,20 +1,25 @@
-// The commands that write: the reply is put, the verdict is found, and an accepted command whose reply fits commits.
-ghost use Rattle.std.specs.Prelude.{◌≡◌, ◌+◌, ◌*◌, ◌^◌, ◌≤◌, ◌<◌, length, replicate};
+// The commands that write: the reply is put, the verdict is found, and an accepted command whose reply fits commits. The store comes as its two
+// slices: a `StoreMut` was tried, and once a `Store` was made of it, to read before the commit, nothing more was known of its words.
+ghost use Rattle.std.specs.Prelude.{◌≡◌, ◌+◌, ◌-◌, ◌*◌, ◌^◌, ◌≤◌, ◌<◌, length, replicate};
 ghost use Rattle.base_writing.specs.Puts.{Puts};
 ghost use Rattle.resp_spec.specs.Reply.{ok};
-ghost use Rattle.store_memtable.specs.Layout.{last_word};
+ghost use Rattle.store_memtable.specs.Versions.{commit};
+ghost use Rattle.store_memtable.specs.Layout.{last_word, store_in, leave_words, leave_bytes};
 ghost use Rattle.store_memtable.specs.Rows.{Valid};
 ghost use Rattle.command_spec.specs.Command.{held, raised};
 ghost use Rattle.command_room.specs.Reading.{last_reader};
-ghost use Rattle.command_spec.specs.Places.{pairs_at, PartsIn};
+ghost use Rattle.command_room.specs.Writes.{RoomForAll};
+ghost use Rattle.command_spec.specs.Places.{pairs_at, tombstones_at, PartsIn};
 ghost use Rattle.command_room.specs.Served.{Runs, Admitted, deletion, counted, integer_text, AdmittedText, RunsText};
 
 use crate::replies;
-use base_number::{Number, integer};
-use base_writing::Put;
+use base_number::integer;
+use command_meaning::arguments::Request;
 use command_room::{commit, read, room};
 use command_spec::{Answer, Fixed};
+use store_commit::lent::StoreMut;
 use store_commit::open;
+use store_memtable::store::Store;
 
 // SET and MSET before their commit: `pairs` keys and values in turn, from place 1 on.
 fn admit_pairs(
@@ -22,20 +27,29 @@ fn admit_pairs(
     places: &[u64],
     pairs: usize,
     used: usize,
-    words: &[u64],
-    bytes: &[u8],
+    store: &Store,
     out: &mut [u8],
 ) -> Answer
     requires parts_in { PartsIn places.now input.now (1 + 2 * pairs) }
-    requires valid { Valid words.now bytes.now }
     requires out_value { out.old ≡ replicate (length out.old) 0 }
-    ensures { Admitted (ok, pairs_at 1 (2 * pairs) places.now input.now) used out.old words.now bytes.now result out.new }
+    ensures { Admitted (ok, pairs_at 1 (2 * pairs) places.now input.now) used out.old store.now.words.now store.now.bytes.now result out.new }
 {
     let put = command_errors::put_fixed(out, Fixed::Ok);
-    let free = room::free_bytes(words);
+    let free = room::free_bytes(store.words);
     let left = room::lengths_left(places, 1, 1 + 2 * pairs, free);
-    let verdict = room::verdict_for(words, pairs, left);
+    let verdict = room::verdict_for(store.words, pairs, left);
     room::verdict_answer(out, verdict, put, used)
+}
+
+// Commits them.
+fn commit_pairs(input: &[u8], places: &[u64], pairs: usize, words: &mut [u64], bytes: &mut [u8])
+    requires parts_in { PartsIn places.now input.now (1 + 2 * pairs) }
+    requires valid { Valid words.old bytes.old }
+    requires room_for_all { RoomForAll words.old (pairs_at 1 (2 * pairs) places.now input.now) }
+    ensures words_after { words.new ≡ leave_words (commit (pairs_at 1 (2 * pairs) places.now input.now) (store_in words.old bytes.old)) words.old }
+    ensures bytes_after { bytes.new ≡ leave_bytes (commit (pairs_at 1 (2 * pairs) places.now input.now) (store_in words.old bytes.old)) bytes.old }
+{
+    commit::commit_pairs(input, places, 1, pairs, &mut StoreMut { words, bytes });
 }
 
 // SET and MSET.
@@ -48,68 +62,67 @@ pub fn run_pairs(
     bytes: &mut [u8],
     out: &mut [u8],
 ) -> Answer
-    requires parts_in { PartsIn places.now input.now (1 + 2 * pairs) }
     requires valid { Valid words.old bytes.old }
+    requires parts_in { PartsIn places.now input.now (1 + 2 * pairs) }
     requires out_value { out.old ≡ replicate (length out.old) 0 }
     ensures { Runs (ok, pairs_at 1 (2 * pairs) places.now input.now) used out.old words.old bytes.old result out.new words.new bytes.new }
 {
-    let answer = admit_pairs(input, places, pairs, used, words, bytes, out);
+    let lent = Store { words, bytes };
+    let answer = admit_pairs(input, places, pairs, used, &lent, out);
     if answer.number == 0 {
-        commit::commit_pairs(input, places, 1, pairs, words, bytes);
-        return answer;
+        commit_pairs(input, places, pairs, words, bytes);
     }
     answer
 }
 
-// DEL before its commit: the keys from place 1 up to `count`.
-fn admit_tombstones(
-    input: &[u8],
-    places: &[u64],
-    count: usize,
-    used: usize,
-    words: &[u64],
-    bytes: &[u8],
-    out: &mut [u8],
-) -> Answer
-    requires parts_in { PartsIn places.now input.now count }
-    requires le_count { 1 ≤ count }
-    requires valid { Valid words.now bytes.now }
+// DEL before its commit: the keys from place 1 on.
+fn admit_tombstones(request: &Request, used: usize, store: &Store, out: &mut [u8]) -> Answer
+    requires le_count { 1 ≤ request.now.count }
     requires out_value { out.old ≡ replicate (length out.old) 0 }
-    ensures { Admitted (deletion count places.now input.now words.now bytes.now) used out.old words.now bytes.now result out.new }
+    ensures { Admitted (deletion request.now.count request.now.places.now request.now.input.now store.now.words.now store.now.bytes.now) used out.old store.now.words.now store.now.bytes.now result out.new }
 {
-    let put = replies::put_live(input, places, count, words, bytes, out);
-    let free = room::free_bytes(words);
-    let left = room::lengths_left(places, 1, count, free);
-    let verdict = room::verdict_for(words, count - 1, left);
+    let put = replies::put_live(request, store, out);
+    let free = room::free_bytes(store.words);
+    let left = room::lengths_left(request.places, 1, request.count, free);
+    let verdict = room::verdict_for(store.words, request.count - 1, left);
     room::verdict_answer(out, verdict, put, used)
+}
+
+// Commits a tombstone for each of them.
+fn commit_tombstones(request: &Request, words: &mut [u64], bytes: &mut [u8])
+    requires le_count { 1 ≤ request.now.count }
+    requires valid { Valid words.old bytes.old }
+    requires room_for_all { RoomForAll words.old (tombstones_at 1 (request.now.count - 1) request.now.places.now request.now.input.now) }
+    ensures words_after { words.new ≡ leave_words (commit (tombstones_at 1 (request.now.count - 1) request.now.places.now request.now.input.now) (store_in words.old bytes.old)) words.old }
+    ensures bytes_after { bytes.new ≡ leave_bytes (commit (tombstones_at 1 (request.now.count - 1) request.now.places.now request.now.input.now) (store_in words.old bytes.old)) bytes.old }
+{
+    let store = &mut StoreMut { words, bytes };
+    commit::commit_tombstones(request.input, request.places, 1, request.count, store);
 }
 
 // DEL.
 pub fn run_tombstones(
-    input: &[u8],
-    places: &[u64],
-    count: usize,
+    request: &Request,
     used: usize,
     words: &mut [u64],
     bytes: &mut [u8],
     out: &mut [u8],
 ) -> Answer
-    requires parts_in { PartsIn places.now input.now count }
-    requires le_count { 1 ≤ count }
     requires valid { Valid words.old bytes.old }
+    requires le_count { 1 ≤ request.now.count }
     requires out_value { out.old ≡ replicate (length out.old) 0 }
-    ensures { Runs (deletion count places.now input.now words.old bytes.old) used out.old words.old bytes.old result out.new words.new bytes.new }
+    ensures { Runs (deletion request.now.count request.now.places.now request.now.input.now words.old bytes.old) used out.old words.old bytes.old result out.new words.new bytes.new }
 {
-    let answer = admit_tombstones(input, places, count, used, words, bytes, out);
+    let lent = Store { words, bytes };
+    let answer = admit_tombstones(request, used, &lent, out);
     if answer.number == 0 {
-        commit::commit_tombstones(input, places, 1, count, words, bytes);
-        return answer;
+        commit_tombstones(request, words, bytes);
     }
     answer
 }
 
 // Writes an integer by its text.
-fn put_integer_text(out: &mut [u8], text: &[u8]) -> Put
+fn put_integer_text(out: &mut [u8], text: &[u8]) -> Option<usize>
     ensures { Puts (integer_text text.now) out.old result out.new }
 {
     let mark = base_writing::put_byte(out, b':');
@@ -118,22 +131,14 @@ fn put_integer_text(out: &mut [u8], text: &[u8]) -> Put
 }
 
 // A counter before its commit, by the text of its new value.
-fn admit_text(
-    name: &[u8],
-    text: &[u8],
-    used: usize,
-    words: &[u64],
-    bytes: &[u8],
-    out: &mut [u8],
-) -> Answer
-    requires valid { Valid words.now bytes.now }
-    requires out_value { out.old ≡ replicate (length out.old) 0 }
-    ensures { AdmittedText name.now text.now used out.old words.now bytes.now result out.new }
+fn admit_text(name: &[u8], text: &[u8], used: usize, store: &Store, out: &mut [u8]) -> Answer
+    requires { out.old ≡ replicate (length out.old) 0 }
+    ensures { AdmittedText name.now text.now used out.old store.now.words.now store.now.bytes.now result out.new }
 {
     let put = put_integer_text(out, text);
-    let free = room::free_bytes(words);
+    let free = room::free_bytes(store.words);
     let left = open::take_bytes(free, name.len(), text.len());
-    let verdict = room::verdict_for(words, 1, left);
+    let verdict = room::verdict_for(store.words, 1, left);
     room::verdict_answer(out, verdict, put, used)
 }
 
@@ -150,10 +155,10 @@ fn run_text(
     requires out_value { out.old ≡ replicate (length out.old) 0 }
     ensures { RunsText name.now text.now used out.old words.old bytes.old result out.new words.new bytes.new }
 {
-    let answer = admit_text(name, text, used, words, bytes, out);
+    let lent = Store { words, bytes };
+    let answer = admit_text(name, text, used, &lent, out);
     if answer.number == 0 {
         store_commit::commit::commit_one(words, bytes, name, text, true);
-        return answer;
     }
     answer
 }
@@ -172,7 +177,7 @@ fn run_number(
     ensures { Runs (counted name.now number) used out.old words.old bytes.old result out.new words.new bytes.new }
 {
     let mut text = [0u8; 20];
-    let Put::Wrote(len) = base_decimal::put_decimal(&mut text, number) else {
+    let Some(len) = base_decimal::put_decimal(&mut text, number) else {
         return command_answer::refusal(3);
     };
     run_text(name, &text[..len], used, words, bytes, out)
@@ -192,11 +197,12 @@ pub fn run_counter(
     requires out_value { out.old ≡ replicate (length out.old) 0 }
     ensures { Runs (raised name.now by (held (last_reader words.old bytes.old name.now))) used out.old words.old bytes.old result out.new words.new bytes.new }
 {
-    let Number::Int(number) = read::held_number(words, bytes, name) else {
-        return replies::answer_fixed(Fixed::NotInteger, used, words, bytes, out);
+    let lent = Store { words, bytes };
+    let Some(number) = read::held_number(&lent, name) else {
+        return replies::answer_fixed(Fixed::NotInteger, used, &lent, out);
     };
-    let Number::Int(sum) = integer::checked_sum(number, by) else {
-        return replies::answer_fixed(Fixed::Overflow, used, words, bytes, out);
+    let Some(sum) = integer::checked_sum(number, by) else {
+        return replies::answer_fixed(Fixed::Overflow, used, &lent, out);
     };
     run_number(name, sum, used, words, bytes, out)
 }

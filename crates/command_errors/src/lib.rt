@@ -2,60 +2,47 @@
 // writes behind what was put.
 #![tactic(auto)]
 
+ghost use Rattle.std.specs.Prelude.{◌≡◌};
 ghost use Rattle.base_writing.specs.Puts.{Puts, Adds};
 ghost use Rattle.resp_spec.specs.Reply.{encode};
 ghost use Rattle.command_spec.specs.Command.{unknown_command};
 ghost use Rattle.command_spec.specs.Session.{not_queueable};
 ghost use Rattle.command_spec.specs.Errors.{fixed_reply, arity_of};
 
-use base_writing::Put;
 use command_spec::Fixed;
 use resp_spec::Letters;
 
-// Writes a fixed reply.
-pub fn put_fixed(out: &mut [u8], which: Fixed) -> Put
-    ensures { Puts (encode (fixed_reply which)) out.old result out.new }
+// The text of a fixed reply.
+#[tactic(auto, unfolding(resp_spec::specs::Reply::encode, command_spec::specs::Errors::fixed_reply))]
+fn text_of(which: Fixed) -> &'static [u8]
+    ensures { result.now ≡ encode (fixed_reply which) }
 {
     match which {
-        Fixed::Ok => base_writing::put_bytes(out, b"+OK\r\n"),
-        Fixed::Queued => base_writing::put_bytes(out, b"+QUEUED\r\n"),
-        Fixed::Pong => base_writing::put_bytes(out, b"+PONG\r\n"),
-        Fixed::NotInteger => base_writing::put_bytes(
-            out,
-            b"-ERR value is not an integer or out of range\r\n",
-        ),
-        Fixed::Overflow => base_writing::put_bytes(
-            out,
-            b"-ERR increment or decrement would overflow\r\n",
-        ),
-        Fixed::Syntax => base_writing::put_bytes(out, b"-ERR syntax error\r\n"),
-        Fixed::InvalidCursor => base_writing::put_bytes(out, b"-ERR invalid cursor\r\n"),
-        Fixed::BadLimit => base_writing::put_bytes(
-            out,
-            b"-ERR LIMIT must be a non-negative integer\r\n",
-        ),
-        Fixed::SetOptions => base_writing::put_bytes(
-            out,
-            b"-ERR SET options (EX, NX, ...) are not supported\r\n",
-        ),
-        Fixed::ExecAlone => base_writing::put_bytes(out, b"-ERR EXEC without MULTI\r\n"),
-        Fixed::DiscardAlone => base_writing::put_bytes(out, b"-ERR DISCARD without MULTI\r\n"),
-        Fixed::NestedMulti => base_writing::put_bytes(
-            out,
-            b"-ERR MULTI calls can not be nested\r\n",
-        ),
-        Fixed::WatchInside => base_writing::put_bytes(
-            out,
-            b"-ERR WATCH inside MULTI is not allowed\r\n",
-        ),
-        Fixed::ExecAbort => base_writing::put_bytes(
-            out,
-            b"-EXECABORT Transaction discarded because of previous errors.\r\n",
-        ),
+        Fixed::Ok => b"+OK\r\n",
+        Fixed::Queued => b"+QUEUED\r\n",
+        Fixed::Pong => b"+PONG\r\n",
+        Fixed::NotInteger => b"-ERR value is not an integer or out of range\r\n",
+        Fixed::Overflow => b"-ERR increment or decrement would overflow\r\n",
+        Fixed::Syntax => b"-ERR syntax error\r\n",
+        Fixed::InvalidCursor => b"-ERR invalid cursor\r\n",
+        Fixed::BadLimit => b"-ERR LIMIT must be a non-negative integer\r\n",
+        Fixed::SetOptions => b"-ERR SET options (EX, NX, ...) are not supported\r\n",
+        Fixed::ExecAlone => b"-ERR EXEC without MULTI\r\n",
+        Fixed::DiscardAlone => b"-ERR DISCARD without MULTI\r\n",
+        Fixed::NestedMulti => b"-ERR MULTI calls can not be nested\r\n",
+        Fixed::WatchInside => b"-ERR WATCH inside MULTI is not allowed\r\n",
+        Fixed::ExecAbort => b"-EXECABORT Transaction discarded because of previous errors.\r\n",
     }
 }
 
-pub fn then_fixed(out: &mut [u8], put: Put, which: Fixed) -> Put
+// Writes a fixed reply.
+pub fn put_fixed(out: &mut [u8], which: Fixed) -> Option<usize>
+    ensures { Puts (encode (fixed_reply which)) out.old result out.new }
+{
+    base_writing::put_bytes(out, text_of(which))
+}
+
+pub fn then_fixed(out: &mut [u8], put: Option<usize>, which: Fixed) -> Option<usize>
     ensures { Adds (encode (fixed_reply which)) put out.old result out.new }
 {
     let at = base_writing::place(put, out.len());
@@ -64,7 +51,7 @@ pub fn then_fixed(out: &mut [u8], put: Put, which: Fixed) -> Put
 }
 
 // The error for a name that is none.
-pub fn put_unknown(out: &mut [u8], word: &[u8]) -> Put
+pub fn put_unknown(out: &mut [u8], word: &[u8]) -> Option<usize>
     ensures { Puts (encode (unknown_command word.now)) out.old result out.new }
 {
     let opened = base_writing::put_bytes(out, b"-ERR unknown command '");
@@ -73,7 +60,7 @@ pub fn put_unknown(out: &mut [u8], word: &[u8]) -> Put
 }
 
 // The error for a name that may not be queued, in capitals.
-pub fn put_not_queueable(out: &mut [u8], word: &[u8]) -> Put
+pub fn put_not_queueable(out: &mut [u8], word: &[u8]) -> Option<usize>
     ensures { Puts (encode (not_queueable word.now)) out.old result out.new }
 {
     let opened = base_writing::put_bytes(out, b"-ERR '");
@@ -82,7 +69,7 @@ pub fn put_not_queueable(out: &mut [u8], word: &[u8]) -> Put
 }
 
 // The error for a wrong argument count of the command `word`, in small letters.
-pub fn put_arity(out: &mut [u8], word: &[u8]) -> Put
+pub fn put_arity(out: &mut [u8], word: &[u8]) -> Option<usize>
     ensures { Puts (encode (arity_of word.now)) out.old result out.new }
 {
     let opened = base_writing::put_bytes(out, b"-ERR wrong number of arguments for '");

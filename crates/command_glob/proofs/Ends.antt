@@ -2,7 +2,7 @@
 use mathlib.Core.Path.{◌≡◌, refl, sym, ap, ◌∙◌}
 use mathlib.Core.Bool.{Bool, true, false, not}
 use mathlib.Core.List.{List, [], ◌∷◌}
-use mathlib.Core.Option.{Option, none, some}
+use Rattle.std.specs.Prelude.{Option, None, Some}
 use Prim.Native.Nat.{ℕ, zero, suc, ◌+◌, ◌-◌, ◌<◌, ◌≤◌}
 use native.Mathlib.Omega.{arith}
 use native.Mathlib.Decide.{dec_le}
@@ -30,7 +30,7 @@ literal_fails c p b s e = go (eqb b c) refl
     go true q = rw (matches, q) e
     go false q = rw (matches, q)
 
-pub end_needed : (p : List Token) {t : List Token} → after_last_star p ≡ some t → (s : Bytes) → some_tail (matches t) s ≡ false → matches p s ≡ false
+pub end_needed : (p : List Token) {t : List Token} → after_last_star p ≡ Some t → (s : Bytes) → some_tail (matches t) s ≡ false → matches p s ≡ false
 unfolding after_last_star matches
 end_needed [] e s f = let z : ◌≡◌ {A = ℕ} 0 1 = cc in absurd (omega arith)
 end_needed (literal c ∷ p) e [] f = refl
@@ -39,33 +39,33 @@ end_needed (one ∷ p) e [] f = refl
 end_needed (one ∷ p) {t} e (b ∷ s) f = end_needed p e s (no_tail_behind (matches t) (b ∷ s) 1 f)
 end_needed (star ∷ p) {t} e s f = star_tails p s ∙ go (after_last_star p) refl e (λ q k. end_needed p q (drop k s) (no_tail_behind (matches t) s k f))
   where
-    go : (o : Option (List Token)) → after_last_star p ≡ o → or_else o (some p) ≡ some t → (after_last_star p ≡ some t → (k : ℕ) → matches p (drop k s) ≡ false)
+    go : (o : Option (List Token)) → after_last_star p ≡ o → or_else o (Some p) ≡ Some t → (after_last_star p ≡ Some t → (k : ℕ) → matches p (drop k s) ≡ false)
         → some_tail (matches p) s ≡ false
-    go none q i again = let same : p ≡ t = cc in ap (λ (x : List Token). some_tail (matches x) s) same ∙ f
-    go (some u) q i again = no_tail (matches p) s (again (q ∙ i))
+    go None q i again = let same : p ≡ t = cc in ap (λ (x : List Token). some_tail (matches x) s) same ∙ f
+    go (Some u) q i again = no_tail (matches p) s (again (q ∙ i))
 
 -- WHAT FOLLOWS THE LAST STAR HAS NO STAR.
-pub last_plain : (p : List Token) {t : List Token} → after_last_star p ≡ some t → after_last_star t ≡ none
+pub last_plain : (p : List Token) {t : List Token} → after_last_star p ≡ Some t → after_last_star t ≡ None
 unfolding after_last_star
 last_plain [] e = let z : ◌≡◌ {A = ℕ} 0 1 = cc in absurd (omega arith)
 last_plain (literal c ∷ p) e = last_plain p e
 last_plain (one ∷ p) e = last_plain p e
 last_plain (star ∷ p) {t} e = go (after_last_star p) refl e (last_plain p)
   where
-    go : (o : Option (List Token)) → after_last_star p ≡ o → or_else o (some p) ≡ some t → (after_last_star p ≡ some t → after_last_star t ≡ none) → after_last_star t ≡ none
-    go none q i again = let same : p ≡ t = cc in ap after_last_star (sym same) ∙ q
-    go (some u) q i again = again (q ∙ i)
+    go : (o : Option (List Token)) → after_last_star p ≡ o → or_else o (Some p) ≡ Some t → (after_last_star p ≡ Some t → after_last_star t ≡ None) → after_last_star t ≡ None
+    go None q i again = let same : p ≡ t = cc in ap after_last_star (sym same) ∙ q
+    go (Some u) q i again = again (q ∙ i)
 
-star_first : (p : List Token) → after_last_star (star ∷ p) ≡ none → ⊥
+star_first : (p : List Token) → after_last_star (star ∷ p) ≡ None → ⊥
 unfolding after_last_star
 star_first p e = go (after_last_star p) e
   where
-    go : (o : Option (List Token)) → or_else o (some p) ≡ none → ⊥
-    go none q = let z : ◌≡◌ {A = ℕ} 0 1 = cc in omega arith
-    go (some u) q = let z : ◌≡◌ {A = ℕ} 0 1 = cc in omega arith
+    go : (o : Option (List Token)) → or_else o (Some p) ≡ None → ⊥
+    go None q = let z : ◌≡◌ {A = ℕ} 0 1 = cc in omega arith
+    go (Some u) q = let z : ◌≡◌ {A = ℕ} 0 1 = cc in omega arith
 
 -- EACH TOKEN THAT IS NO STAR TAKES ONE BYTE.
-plain_length : (t : List Token) → after_last_star t ≡ none → (s : Bytes) → matches t s ≡ true → length s ≡ length t
+plain_length : (t : List Token) → after_last_star t ≡ None → (s : Bytes) → matches t s ≡ true → length s ≡ length t
 unfolding after_last_star matches
 plain_length [] n [] e = refl
 plain_length [] n (b ∷ s) e = clash refl (sym e)
@@ -79,7 +79,7 @@ plain_length (one ∷ p) n [] e = clash refl (sym e)
 plain_length (one ∷ p) n (b ∷ s) e = ap suc (plain_length p n s e)
 plain_length (star ∷ p) n s e = absurd (star_first p n)
 
-module _ (t : List Token) (n : after_last_star t ≡ none) where
+module _ (t : List Token) (n : after_last_star t ≡ None) where
   other_length : (s : Bytes) → (length s ≡ length t → ⊥) → matches t s ≡ false
   other_length s ne = go (matches t s) refl
     where
@@ -113,18 +113,18 @@ module _ (t : List Token) (n : after_last_star t ≡ none) where
           tail_next (matches t) b s (other_length (b ∷ s) (eqb-false (suc (length s)) (length t) q)) ∙ again l ∙ ap (λ (k : ℕ). matches t (drop k (b ∷ s))) (sym z)
 
 -- SEEKING THE LAST STAR: `behind` is the place behind the last star so far, or 0, and `count` the tokens from there on.
-behind_some : (p : Bytes) (n : ℕ) → 0 < n → behind_star p n ≡ some (tokens (drop n p))
+behind_some : (p : Bytes) (n : ℕ) → 0 < n → behind_star p n ≡ Some (tokens (drop n p))
 unfolding behind_star
 behind_some p zero h = absurd (omega arith)
 behind_some p (suc n) h = refl
 
-else_none : (o : Option (List Token)) → or_else o none ≡ o
-else_none none = refl
-else_none (some t) = refl
+else_none : (o : Option (List Token)) → or_else o None ≡ o
+else_none None = refl
+else_none (Some t) = refl
 
-else_some : (o : Option (List Token)) (t : List Token) (other : Option (List Token)) → or_else (or_else o (some t)) other ≡ or_else o (some t)
-else_some none t other = refl
-else_some (some u) t other = refl
+else_some : (o : Option (List Token)) (t : List Token) (other : Option (List Token)) → or_else (or_else o (Some t)) other ≡ or_else o (Some t)
+else_some None t other = refl
+else_some (Some u) t other = refl
 
 pub record Seeking (p : Bytes) (at behind count : ℕ) : Type 0 where
   pub within : at ≤ length p
@@ -177,7 +177,7 @@ module _ {p : Bytes} {at behind count : ℕ} (k : Seeking p at behind count) whe
   }
 
 -- what the pattern has from there on has no star
-from_plain : (p : Bytes) (behind : ℕ) → after_last_star (tokens p) ≡ behind_star p behind → after_last_star (tokens (drop behind p)) ≡ none
+from_plain : (p : Bytes) (behind : ℕ) → after_last_star (tokens p) ≡ behind_star p behind → after_last_star (tokens (drop behind p)) ≡ None
 unfolding behind_star
 from_plain p zero e = e
 from_plain p (suc n) e = last_plain (tokens p) e
@@ -187,7 +187,7 @@ pub record Pairing (p s : Bytes) (behind end at used : ℕ) : Type 0 where
   pub within : at ≤ length p
   pub inside : used ≤ length s
   pub counted : length (tokens (drop at p)) ≡ length s - used
-  pub plain : after_last_star (tokens (drop at p)) ≡ none
+  pub plain : after_last_star (tokens (drop at p)) ≡ None
   pub rest : matches (tokens (drop behind p)) (drop end s) ≡ matches (tokens (drop at p)) (drop used s)
 
 pub pairing_none : {p s : Bytes} {behind end : ℕ} → LastStar p behind (length s - end) → end ≤ length s → Pairing p s behind end behind end
@@ -233,7 +233,7 @@ module _ {p s : Bytes} {behind end at used : ℕ} (k : Pairing p s behind end at
 
 -- DOES SOME END MATCH? What follows the last star takes one end only.
 module _ {p : Bytes} (s : Bytes) {behind count : ℕ} (a : LastStar p behind count) where
-  follows_plain : after_last_star (tokens (drop behind p)) ≡ none
+  follows_plain : after_last_star (tokens (drop behind p)) ≡ None
   follows_plain = from_plain p behind a.is
 
   pub name_short : length s < count → false ≡ some_tail (matches (tokens (drop behind p))) s
@@ -273,7 +273,7 @@ module _ {p s : Bytes} {behind end : ℕ} (f : EndFound p s behind end) where
       t : List Token
       t = tokens (drop behind p)
 
-      plain : after_last_star t ≡ none
+      plain : after_last_star t ≡ None
       plain = from_plain p behind f.last.is
 
       go : Dec (from ≤ end) → leb from end ≡ some_tail (matches t) (drop from s)
@@ -299,7 +299,7 @@ module _ {p s : Bytes} {behind end : ℕ} (f : EndFound p s behind end) where
       all : tokens (drop behind p) ≡ tokens p
       all = ap (λ (n : ℕ). tokens (drop n p)) z
 
-      plain : after_last_star (tokens p) ≡ none
+      plain : after_last_star (tokens p) ≡ None
       plain = ap after_last_star (sym all) ∙ from_plain p behind f.last.is
 
       go : (v : Bool) → eqb end 0 ≡ v → v ≡ matches (tokens p) s
@@ -319,11 +319,11 @@ not-false true e = clash refl (sym e)
 not-false false e = refl
 
 module _ (p s : Bytes) where
-  missing_none : after_last_star (tokens p) ≡ none → end_missing (after_last_star (tokens p)) s ≡ false
+  missing_none : after_last_star (tokens p) ≡ None → end_missing (after_last_star (tokens p)) s ≡ false
   unfolding end_missing
   missing_none e = ap (λ (o : Option (List Token)). end_missing o s) e
 
-  missing_not : {t : List Token} → after_last_star (tokens p) ≡ some t → end_missing (after_last_star (tokens p)) s ≡ not (some_tail (matches t) s)
+  missing_not : {t : List Token} → after_last_star (tokens p) ≡ Some t → end_missing (after_last_star (tokens p)) s ≡ not (some_tail (matches t) s)
   unfolding end_missing
   missing_not e = ap (λ (o : Option (List Token)). end_missing o s) e
 
@@ -385,23 +385,10 @@ same_answer p s = go (glob p s) (end_missing (after_last_star (tokens p)) s)
     go false true = refl
     go false false = refl
 
-module _ (p s : Bytes) {o : Compared} (a : o ≡ glob_told p s) where
-  answer_is : yes o ≡ glob p s
-  answer_is = ap yes a ∙ same_answer p s
-
-  pub answer_yes : o ≡ Matches → true ≡ glob p s
-  answer_yes e = ap yes (sym e) ∙ answer_is
-
-  pub answer_no : o ≡ Differs → false ≡ glob p s
-  answer_no e = ap yes (sym e) ∙ answer_is
-
-  pub answer_by_the_end : o ≡ DiffersByTheEnd → false ≡ glob p s
-  answer_by_the_end e = ap yes (sym e) ∙ answer_is
-
 -- no end of the name matches what follows the last star
 pub record ByTheEnd (p s : Bytes) : Type 0 where
   pub behind : List Token
-  pub is : after_last_star (tokens p) ≡ some behind
+  pub is : after_last_star (tokens p) ≡ Some behind
   pub none_matches : (k : ℕ) → matches behind (drop k s) ≡ false
 
 pub by_the_end : (p s : Bytes) → ByTheEnd p s → glob_told p s ≡ DiffersByTheEnd
@@ -420,5 +407,5 @@ only_by_the_end p s e = go (after_last_star (tokens p)) refl (missed (glob p s) 
     missed false false q = let z : ◌≡◌ {A = ℕ} 0 1 = cc in absurd (omega arith)
 
     go : (o : Option (List Token)) → after_last_star (tokens p) ≡ o → end_missing o s ≡ true → ByTheEnd p s
-    go none q f = clash refl (sym f)
-    go (some t) q f = record { behind = t; is = q; none_matches = λ k. whole_fails (matches t) (drop k s) (no_tail_behind (matches t) s k (not-false _ f)) }
+    go None q f = clash refl (sym f)
+    go (Some t) q f = record { behind = t; is = q; none_matches = λ k. whole_fails (matches t) (drop k s) (no_tail_behind (matches t) s k (not-false _ f)) }

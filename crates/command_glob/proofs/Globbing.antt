@@ -96,14 +96,6 @@ pub record Walking (p s : Bytes) (at used : ℕ) : Type 0 where
   pub rest : matches (tokens p) s ≡ matches (tokens (drop at p)) (drop used s)
   pub reach : (m : ℕ) (q : List Token) → Reach (tokens (drop at p)) m q → Reach (tokens p) (used + m) q
 
-pub walking_none : (p s : Bytes) → Walking p s 0 0
-walking_none p s = record {
-  within = omega arith;
-  inside = omega arith;
-  rest = refl;
-  reach = λ m q r. subst (λ (n : ℕ). Reach (tokens p) n q) (omega arith) r;
-}
-
 pub star_tails : (p : List Token) (s : Bytes) → matches (star ∷ p) s ≡ some_tail (matches p) s
 unfolding matches some_tail
 star_tails p [] = refl
@@ -224,9 +216,6 @@ pub record Retrying (p s : Bytes) (start first at from : ℕ) : Type 0 where
   pub inside : from ≤ length s
   pub rest : some_tail (matches (tokens (drop start p))) (drop first s) ≡ some_tail (matches (tokens (drop at p))) (drop from s)
 
-pub retrying_none : (p s : Bytes) (start first : ℕ) → start ≤ length p → first ≤ length s → Retrying p s start first start first
-retrying_none p s start first h i = record { within = h; inside = i; rest = refl }
-
 module _ {p s : Bytes} {start first at from : ℕ} (r : Retrying p s start first at from) where
   pub retry_whole : matches (tokens (drop at p)) (drop from s) ≡ true → true ≡ some_tail (matches (tokens (drop start p))) (drop first s)
   retry_whole e = sym (r.rest ∙ tail_first (matches (tokens (drop at p))) (drop from s) e)
@@ -248,12 +237,6 @@ module _ {p s : Bytes} {start first at from : ℕ} (r : Retrying p s start first
             ∙ tail_next (matches (tokens (drop at p))) (get_or s from 0) (drop (from + 1) s) (ap (matches (tokens (drop at p))) (sym d) ∙ e);
       }
 
-  pub star_room : {next used : ℕ} → AtStar (drop at p) (drop from s) next used → (0 < next) × (at + next ≤ length p) × (from + used ≤ length s)
-  star_room {next} {used} a =
-      let u : next ≤ length p - at = rw length-drop at a.within in
-      let v : used ≤ length s - from = rw length-drop at a.inside in
-      (a.forward, omega (arith, r.within), omega (arith, r.inside))
-
   pub retry_star : {next used : ℕ} → AtStar (drop at p) (drop from s) next used → Retrying p s start first (at + next) (from + used)
   retry_star {next} {used} a =
       let u : next ≤ length p - at = rw length-drop at a.within in
@@ -267,12 +250,6 @@ module _ {p s : Bytes} {start first at from : ℕ} (r : Retrying p s start first
       }
 
 -- PLACES THAT NEED NO TRY: the token is a byte, and the name has another there.
-pub passed_none : (t : List Token) (s : Bytes) (from : ℕ) → from ≤ length s → Passed t s from from
-passed_none t s from h = record { forward = omega arith; inside = h; rest = refl }
-
-pub byte_passed_none : (s : Bytes) (b from : ℕ) → from ≤ length s → BytePassed s b from from
-byte_passed_none s b from h = record { forward = omega arith; inside = h; rest = λ t. refl }
-
 other_byte : (b : ℕ) (t : List Token) (c : ℕ) (s : Bytes) → (c ≡ b → ⊥) → matches (literal b ∷ t) (c ∷ s) ≡ false
 unfolding matches
 other_byte b t c s ne = rw (matches, ne_eqb c b ne)
@@ -284,13 +261,6 @@ byte_passed_more {s} {b} {from} {i} k h ne = record {
   rest = λ t.
       k.rest t ∙ ap (some_tail (matches (literal b ∷ t))) (from_here s i h)
       ∙ tail_next (matches (literal b ∷ t)) (get_or s i 0) (drop (i + 1) s) (other_byte b t (get_or s i 0) (drop (i + 1) s) ne);
-}
-
-pub byte_passed : {p s : Bytes} {at next b from i : ℕ} → TokenAt p at next (literal b) → BytePassed s b from i → Passed (tokens (drop at p)) s from i
-byte_passed {p} {s} {at} {next} {b} {from} {i} a k = record {
-  forward = k.forward;
-  inside = k.inside;
-  rest = subst (λ (t : List Token). some_tail (matches t) (drop from s) ≡ some_tail (matches t) (drop i s)) (sym a.is) (k.rest (tokens (drop next p)));
 }
 
 pub retry_passed : {p s : Bytes} {start first at from i : ℕ} → Retrying p s start first at from → Passed (tokens (drop at p)) s from i → Retrying p s start first at i
@@ -338,14 +308,8 @@ module _ (p s : Bytes) where
   unfolding glob
   glob_star a e = e ∙ sym a.rest
 
-pub stepped_star : (p : Bytes) (at : ℕ) {t : Step} {next : ℕ} → Stepped p at t → t ≡ step.Star next → TokenAt p at next star
-stepped_star p at a e = subst (Stepped p at) e a
-
 pub stepped_one : (p : Bytes) (at : ℕ) {t : Step} {next : ℕ} → Stepped p at t → t ≡ step.One next → TokenAt p at next one
 stepped_one p at a e = subst (Stepped p at) e a
 
 pub stepped_byte : (p : Bytes) (at : ℕ) {t : Step} {b next : ℕ} → Stepped p at t → t ≡ step.Byte b next → TokenAt p at next (literal b)
 stepped_byte p at a e = subst (Stepped p at) e a
-
-pub stepped_end : (p : Bytes) (at : ℕ) {t : Step} → Stepped p at t → t ≡ step.End → tokens (drop at p) ≡ []
-stepped_end p at a e = subst (Stepped p at) e a

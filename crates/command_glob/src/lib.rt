@@ -14,20 +14,13 @@ fn token_at(pattern: &[u8], at: usize) -> Step
     if pattern.len() <= at {
         return Step::End;
     }
-    let byte = pattern[at];
     let next = at + 1;
-    if byte == b'*' {
-        return Step::Star(next);
+    match pattern[at] {
+        b'*' => Step::Star(next),
+        b'?' => Step::One(next),
+        b'\\' if next < pattern.len() => Step::Byte(pattern[next], next + 1),
+        byte => Step::Byte(byte, next),
     }
-    if byte == b'?' {
-        return Step::One(next);
-    }
-    if byte == b'\\' {
-        if next < pattern.len() {
-            return Step::Byte(pattern[next], next + 1);
-        }
-    }
-    Step::Byte(byte, next)
 }
 
 // Along the name up to the first star of the pattern.
@@ -37,8 +30,7 @@ fn along(pattern: &[u8], name: &[u8]) -> Walk
     let mut at = 0;
     let mut used = 0;
     loop {
-        let found = token_at(pattern, at);
-        match found {
+        match token_at(pattern, at) {
             Step::End => {
                 if used < name.len() {
                     return Walk::Fails;
@@ -54,10 +46,7 @@ fn along(pattern: &[u8], name: &[u8]) -> Walk
                 used += 1;
             }
             Step::Byte(byte, next) => {
-                if name.len() <= used {
-                    return Walk::Fails;
-                }
-                if name[used] != byte {
+                if name.len() <= used || name[used] != byte {
                     return Walk::Fails;
                 }
                 at = next;
@@ -75,19 +64,14 @@ pub fn last_star(pattern: &[u8]) -> Last
     let mut behind = 0;
     let mut count = 0;
     loop {
-        let found = token_at(pattern, at);
-        match found {
+        match token_at(pattern, at) {
             Step::End => return Last { behind, count },
             Step::Star(next) => {
                 at = next;
                 behind = next;
                 count = 0;
             }
-            Step::One(next) => {
-                at = next;
-                count += 1;
-            }
-            Step::Byte(_, next) => {
+            Step::One(next) | Step::Byte(_, next) => {
                 at = next;
                 count += 1;
             }
@@ -104,8 +88,7 @@ fn bytes_match(pattern: &[u8], behind: usize, name: &[u8], end: usize) -> bool
     let mut at = behind;
     let mut used = end;
     loop {
-        let found = token_at(pattern, at);
-        match found {
+        match token_at(pattern, at) {
             Step::End => return true,
             Step::Star(_) => return false,
             Step::One(next) => {
@@ -128,10 +111,7 @@ fn end_matches(pattern: &[u8], behind: usize, count: usize, name: &[u8]) -> bool
     requires { LastStar pattern.now behind count }
     ensures { result ≡ some_tail (matches (tokens (drop behind pattern.now))) name.now }
 {
-    if name.len() < count {
-        return false;
-    }
-    bytes_match(pattern, behind, name, name.len() - count)
+    count <= name.len() && bytes_match(pattern, behind, name, name.len() - count)
 }
 
 // Passes over the bytes of the name from `from` on that are not this one.
@@ -139,14 +119,12 @@ fn place_of(name: &[u8], from: usize, byte: u8) -> usize
     requires { from ≤ length name.now }
     ensures { BytePassed name.now byte from result }
 {
-    let mut i = from;
-    while i < name.len() {
+    for i in from..name.len() {
         if name[i] == byte {
             return i;
         }
-        i += 1;
     }
-    i
+    name.len()
 }
 
 // The next place of the name to try, from `from` on: where the token at `at` is a byte, other bytes are passed over.
@@ -154,12 +132,9 @@ fn next_place(pattern: &[u8], at: usize, name: &[u8], from: usize) -> usize
     requires { from ≤ length name.now }
     ensures { Passed (tokens (drop at pattern.now)) name.now from result }
 {
-    let found = token_at(pattern, at);
-    match found {
-        Step::End => from,
-        Step::Star(_) => from,
-        Step::One(_) => from,
+    match token_at(pattern, at) {
         Step::Byte(byte, _) => place_of(name, from, byte),
+        _ => from,
     }
 }
 
@@ -181,8 +156,7 @@ fn tail_matches(
     let mut at = start;
     let mut from = first;
     loop {
-        let found = along(&pattern[at..], &name[from..]);
-        match found {
+        match along(&pattern[at..], &name[from..]) {
             Walk::Whole => return true,
             Walk::Star(next, used) => {
                 at += next;
@@ -209,8 +183,7 @@ fn front_matches(pattern: &[u8], behind: usize, name: &[u8], end: usize) -> bool
     if behind == 0 {
         return end == 0;
     }
-    let found = along(pattern, name);
-    match found {
+    match along(pattern, name) {
         Walk::Whole => true,
         Walk::Fails => false,
         Walk::Star(next, used) => {
@@ -252,8 +225,6 @@ pub fn glob(pattern: &[u8], behind: usize, count: usize, name: &[u8]) -> bool
     requires { LastStar pattern.now behind count }
     ensures { result ≡ glob pattern.now name.now }
 {
-    if end_matches(pattern, behind, count, name) {
-        return front_matches(pattern, behind, name, name.len() - count);
-    }
-    false
+    end_matches(pattern, behind, count, name)
+        && front_matches(pattern, behind, name, name.len() - count)
 }

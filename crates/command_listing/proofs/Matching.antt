@@ -7,23 +7,23 @@ use native.Mathlib.Omega.{arith}
 use lib.ListN.{length, take, drop, length-map, length-take}
 use lib.Seq.{take_all, take-nil, drop-nil, length-take-le}
 use Rattle.base_key.specs.Bytes.{Bytes}
-use Rattle.base_writing.specs.declared.Put.{Put}
-use Rattle.base_writing.specs.declared.Put.TheVariants.{Full}
 use Rattle.base_writing.specs.Puts.{Puts, Adds}
 use Rattle.base_writing.proofs.Puts.{same_text}
 use Rattle.resp_spec.specs.Reply.{Reply, BulkString, array, head, encode}
-use Rattle.resp_encode.proofs.Replies.{Listed, listed_none, listed_more, listed_full, listed_all}
-use Rattle.store_memtable.specs.declared.Found.{Found}
-use Rattle.store_memtable.specs.declared.Found.TheVariants.{At, Nothing}
+use Rattle.resp_encode.proofs.Replies.{Listed, listed_more, listed_full, listed_all}
 use Rattle.store_memtable.specs.Table.{Value, Entry, Table}
 use Rattle.store_memtable.specs.Versions.{table}
 use Rattle.store_memtable.specs.Layout.{count_word, version_at}
 use Rattle.store_memtable.specs.Rows.{versions_in, Valid}
 use Rattle.store_memtable.specs.Walk.{entry_at, next_live}
 use Rattle.command_spec.specs.Command.{KEYS, keep, key_reply, answer_listing}
-use Rattle.command_spec.specs.Glob.{glob}
+use Rattle.command_spec.specs.declared.pattern.Compared.{Compared}
+use Rattle.command_spec.specs.declared.pattern.Compared.TheVariants.{Matches, Differs, DiffersByTheEnd}
+use Rattle.command_spec.specs.Glob.{glob, glob_told}
+use Rattle.command_glob.proofs.Ends.{yes, same_answer}
 use Rattle.command_listing.specs.Rest.{rest, matching, keys_reply, one_if, SeenFrom}
 use Rattle.command_listing.proofs.Rests.{rest_all, rest_few, rest_none, rest_some, take_first, drop_first}
+use Rattle.std.specs.Prelude.{Option, None, Some}
 
 -- the first entry matches, or not, or there is none
 matching_first : (p : Bytes) (e : Entry Value) (t : Table) {r : Bool} → glob p e.0 ≡ r → matching p (e ∷ t) ≡ cond r (e ∷ matching p t) (matching p t)
@@ -47,15 +47,23 @@ unfolding one_if
 one_at_most true e = omega arith
 one_at_most false e = omega arith
 
--- one or none, by the test
-module _ (t : Bool) where
-  pub one_true : true ≡ t → 1 ≡ one_if t
-  unfolding one_if
-  one_true e = ap one_if e
+-- one or none, by the answer
+one_by : (p s : Bytes) {o : Compared} → o ≡ glob_told p s → one_if (yes o) ≡ one_if (glob p s)
+one_by p s a = ap one_if (ap yes a ∙ same_answer p s)
 
-  pub one_false : false ≡ t → 0 ≡ one_if t
+module _ (p s : Bytes) {o : Compared} (a : o ≡ glob_told p s) where
+  pub one_matches : o ≡ Matches → 1 ≡ one_if (glob p s)
   unfolding one_if
-  one_false e = ap one_if e
+  one_matches e = ap (λ (x : Compared). one_if (yes x)) (sym e) ∙ one_by p s a
+
+  pub none_matches : (o ≡ Matches → ⊥) → 0 ≡ one_if (glob p s)
+  unfolding one_if
+  none_matches ne = go o ne ∙ one_by p s a
+    where
+      go : (x : Compared) → (x ≡ Matches → ⊥) → 0 ≡ one_if (yes x)
+      go Matches h = absurd (h refl)
+      go Differs h = refl
+      go DiffersByTheEnd h = refl
 
 -- the matching ones among the first n are the first of the matching ones
 matching_take : (p : Bytes) (n : ℕ) (t : Table) → take (length (matching p (take n t))) (matching p t) ≡ matching p (take n t)
@@ -78,16 +86,14 @@ pub record Looking (w b p : List ℕ) (from most i left matched : ℕ) : Type 0 
   pub stop : drop left (rest w b i) ≡ drop most (rest w b from)
   pub few : matched + left ≤ most
 
-pub looking_none : (w b p : List ℕ) (from most : ℕ) → Looking w b p from most from most 0
-looking_none w b p from most = record { count = omega arith; stop = refl; few = omega arith }
-
 module _ {w b p : List ℕ} {from most i left matched : ℕ} (k : Looking w b p from most i left matched) where
   looked : take left (rest w b i) ≡ [] → length (matching p (take most (rest w b from))) ≡ matched
   looked over = k.count ∙ ap (λ (l : Table). matched + length l) (ap (matching p) over ∙ matching_nothing p) ∙ omega arith
 
-  module _ {o : Found} (h : 0 < left) (is : o ≡ next_live w b i (count_word w - i)) where
-    pub looking_more : {j : ℕ} {name : Bytes} {r : ℕ} → o ≡ At j → name ≡ (version_at w b j).key → r ≡ one_if (glob p name) → Looking w b p from most (j + 1) (left - 1) (matched + r)
-    looking_more {j} e n g =
+  module _ {o : Option ℕ} (is : o ≡ next_live w b i (count_word w - i)) where
+    pub looking_more : {j : ℕ} {name : Bytes} {r left' : ℕ} → o ≡ Some j → name ≡ (version_at w b j).key → r ≡ one_if (glob p name) → 0 < left → left - 1 ≡ left' → Looking w b p from most (j + 1) left' (matched + r)
+    looking_more {j} e n g h l =
+        rw (← l)
         let q : length (matching p (take left (rest w b i))) ≡ one_if (glob p (version_at w b j).key) + length (matching p (take (left - 1) (rest w b (j + 1)))) =
         ap (λ (t : Table). length (matching p t)) (ap (take left) (rest_some w b i is e) ∙ take_first h (entry_at w b j) (rest w b (j + 1)))
         ∙ matching_count p (entry_at w b j) (take (left - 1) (rest w b (j + 1))) in
@@ -98,7 +104,7 @@ module _ {w b p : List ℕ} {from most i left matched : ℕ} (k : Looking w b p 
           few = omega (arith, k.few, one_at_most (glob p _) g);
         }
 
-    pub looking_over : o ≡ Nothing → SeenFrom w b p from most matched i
+    pub looking_over : o ≡ None → SeenFrom w b p from most matched i
     looking_over e =
         let over = rest_none w b i is e in
         record {
@@ -115,22 +121,19 @@ module _ {w b p : List ℕ} {from most i left matched : ℕ} (k : Looking w b p 
       }
 
 -- the replies still to be written, under another name
-pub relist : {whole rest other : List Reply} {put after : Put} {entry out : Bytes} → rest ≡ other → Listed whole rest put entry after out → Listed whole other put entry after out
+pub relist : {whole rest other : List Reply} {put after : Option ℕ} {entry out : Bytes} → rest ≡ other → Listed whole rest put entry after out → Listed whole other put entry after out
 relist {whole} {put = put} {after = after} {entry = entry} {out = out} e g = subst (λ (l : List Reply). Listed whole l put entry after out) e g
 
 -- WRITING. The walk at place i, with `left` of `count` keys still to be written; `put` and `entry` are as the loop found them, behind the head
-pub record Writing (w b p : List ℕ) (from count i left : ℕ) (put : Put) (entry : Bytes) (after : Put) (out : Bytes) : Type 0 where
+pub record Writing (w b p : List ℕ) (from count i left : ℕ) (put : Option ℕ) (entry : Bytes) (after : Option ℕ) (out : Bytes) : Type 0 where
   pub listed : Listed (map key_reply (take count (matching p (rest w b from)))) (map key_reply (take left (matching p (rest w b i)))) put entry after out
 
-pub writing_none : (w b p : List ℕ) (from count : ℕ) (put : Put) (entry : Bytes) → Writing w b p from count from count put entry put entry
-writing_none w b p from count put entry = record { listed = listed_none (map key_reply (take count (matching p (rest w b from)))) put entry }
-
-module _ {w b p : List ℕ} {from count i left : ℕ} {put next : Put} {entry mid : Bytes} (k : Writing w b p from count i left put entry next mid) where
-  module _ {o : Found} {j : ℕ} {name : Bytes} {r : Bool} (is : o ≡ next_live w b i (count_word w - i)) (e : o ≡ At j) (n : name ≡ (version_at w b j).key) (g : r ≡ glob p name) where
+module _ {w b p : List ℕ} {from count i left : ℕ} {put next : Option ℕ} {entry mid : Bytes} (k : Writing w b p from count i left put entry next mid) where
+  module _ {o : Option ℕ} {j : ℕ} {name : Bytes} {r : Bool} (is : o ≡ next_live w b i (count_word w - i)) (e : o ≡ Some j) (n : name ≡ (version_at w b j).key) (g : r ≡ glob p name) where
     found_there : {t : Bool} → r ≡ t → matching p (rest w b i) ≡ cond t (entry_at w b j ∷ matching p (rest w b (j + 1))) (matching p (rest w b (j + 1)))
     found_there f = ap (matching p) (rest_some w b i is e) ∙ matching_first p (entry_at w b j) (rest w b (j + 1)) (ap (glob p) (sym n) ∙ sym g ∙ f)
 
-    pub writing_match : {after : Put} {exit : Bytes} → 0 < left → r ≡ true → Adds (encode (BulkString name)) next mid after exit → Writing w b p from count (j + 1) (left - 1) put entry after exit
+    pub writing_match : {after : Option ℕ} {exit : Bytes} → 0 < left → r ≡ true → Adds (encode (BulkString name)) next mid after exit → Writing w b p from count (j + 1) (left - 1) put entry after exit
     writing_match h f a =
         let q : take left (matching p (rest w b i)) ≡ entry_at w b j ∷ take (left - 1) (matching p (rest w b (j + 1))) =
         ap (take left) (found_there f) ∙ take_first h (entry_at w b j) (matching p (rest w b (j + 1))) in
@@ -143,7 +146,7 @@ module _ {w b p : List ℕ} {from count i left : ℕ} {put next : Put} {entry mi
     counted : count ≡ length (map key_reply (take count (matching p (rest w b from))))
     counted = sym (length-map (take count (matching p (rest w b from))) key_reply ∙ length-take-le count (matching p (rest w b from)) fits)
 
-    pub writing_full : next ≡ Full → Puts (encode (keys_reply (take count (matching p (rest w b from))))) start Full mid
+    pub writing_full : next ≡ None → Puts (encode (keys_reply (take count (matching p (rest w b from))))) start None mid
     unfolding keys_reply
     writing_full told = listed_full (map key_reply (take count (matching p (rest w b from)))) counted s (map key_reply (take left (matching p (rest w b i)))) k.listed told
 
@@ -151,7 +154,7 @@ module _ {w b p : List ℕ} {from count i left : ℕ} {put next : Put} {entry mi
     unfolding keys_reply
     written_out over = listed_all (map key_reply (take count (matching p (rest w b from)))) counted s (relist (ap (map key_reply) over) k.listed)
 
-    pub writing_over : {o : Found} → o ≡ next_live w b i (count_word w - i) → o ≡ Nothing → Puts (encode (keys_reply (take count (matching p (rest w b from))))) start next mid
+    pub writing_over : {o : Option ℕ} → o ≡ next_live w b i (count_word w - i) → o ≡ None → Puts (encode (keys_reply (take count (matching p (rest w b from))))) start next mid
     writing_over is e = written_out (ap (take left) (ap (matching p) (rest_none w b i is e) ∙ matching_nothing p) ∙ take-nil left)
 
     pub writing_end : left ≤ 0 → Puts (encode (keys_reply (take count (matching p (rest w b from))))) start next mid
@@ -166,7 +169,7 @@ module _ {w b p : List ℕ} {from most matched next : ℕ} (seen : SeenFrom w b 
   seen_keys = ap (λ (n : ℕ). take n (matching p (rest w b from))) seen.count ∙ matching_take p most (rest w b from)
 
 -- KEYS
-pub keys_answer : {w b p : List ℕ} {matched next : ℕ} {start exit : Bytes} {put : Put} → Valid w b → SeenFrom w b p 0 (count_word w) matched next
+pub keys_answer : {w b p : List ℕ} {matched next : ℕ} {start exit : Bytes} {put : Option ℕ} → Valid w b → SeenFrom w b p 0 (count_word w) matched next
     → Puts (encode (keys_reply (take matched (matching p (rest w b 0))))) start put exit → Puts (encode (answer_listing (table (versions_in w b)) (KEYS p))) start put exit
 unfolding answer_listing keys_reply matching
 keys_answer {w} {b} {p} v seen a =

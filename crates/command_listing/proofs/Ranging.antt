@@ -3,7 +3,7 @@ use mathlib.Core.Path.{◌≡◌, refl, sym, ap, ◌∙◌, subst}
 use mathlib.Core.Logic.{inl, inr}
 use mathlib.Core.Bool.{Bool, true, false, cond, not, ◌&&◌, false≢true}
 use mathlib.Core.List.{List, [], ◌∷◌, ◌++◌, append_assoc}
-use mathlib.Core.Option.{some, none}
+use Rattle.std.specs.Prelude.{Some, None}
 use Prim.Native.Nat.{ℕ, zero, suc, ◌+◌, ◌-◌, ◌*◌, ◌≤◌, ◌<◌}
 use native.Mathlib.Nat.{add-zero, sub-zero}
 use native.Mathlib.Decide.{dec_le}
@@ -11,20 +11,14 @@ use native.Mathlib.Omega.{arith}
 use lib.Dec.{leb, ltb}
 use lib.ListN.{length, take, drop, replicate, length-take, length-replicate}
 use lib.Seq.{take_all, take-nil, take-take, length-take-le}
-use Rattle.base_key.specs.declared.Order.{Order}
-use Rattle.base_key.specs.declared.Order.TheVariants.{Less, Equal, Greater}
 use Rattle.base_key.specs.Bytes.{Bytes}
 use Rattle.base_key.specs.Keys.{Key, compare_keys, order_of_versions, order_by, then_by, is_less, key_below}
 use Rattle.base_key.proofs.Bytes.{and_left, and_right}
 use Rattle.base_key.proofs.Keys.{Precedes, precedes, less_is, compare_trans}
-use Rattle.base_writing.specs.declared.Put.{Put}
-use Rattle.base_writing.specs.declared.Put.TheVariants.{Wrote, Full}
 use Rattle.base_writing.specs.Puts.{Puts, Adds, answered_behind, placed_behind}
 use Rattle.base_writing.proofs.Puts.{same_text, then_adds, follows_more}
 use Rattle.resp_spec.specs.Reply.{Reply, BulkString, array, items, head, encode, encode_all}
-use Rattle.resp_encode.proofs.Replies.{Listed, listed_none, listed_full, listed_all}
-use Rattle.store_memtable.specs.declared.Found.{Found}
-use Rattle.store_memtable.specs.declared.Found.TheVariants.{At, Nothing}
+use Rattle.resp_encode.proofs.Replies.{Listed, listed_full, listed_all}
 use Rattle.store_memtable.specs.Table.{Value, Entry, Table}
 use Rattle.store_memtable.specs.Versions.{Version, table, sorted, sorted_after, before, order_of, bytes_of}
 use Rattle.store_memtable.specs.Layout.{count_word, last_word, version_at, versions_from, value_part}
@@ -39,13 +33,16 @@ use Rattle.command_spec.specs.Command.{RANGE, keep, key_in_range, pair_replies, 
 use Rattle.command_listing.specs.Rest.{rest, below, pairs_reply}
 use Rattle.command_listing.proofs.Matching.{relist}
 use Rattle.command_listing.proofs.Rests.{rest_few, table_few, rest_none, rest_some, take_first}
+use Rattle.std.specs.Prelude.{Option}
+use Rattle.std.specs.declared.cmp.Ordering.TheVariants.{Less, Equal, Greater}
+use Rattle.std.specs.declared.cmp.Ordering.{Ordering}
 
 -- UP TO A KEY. A key behind one that is not below `end` is not below it either
 not_below : (k j end : Key) → compare_keys k j ≡ Less → key_below k end ≡ false → key_below j end ≡ false
 unfolding key_below
 not_below k j end l h = go (compare_keys j end) refl
   where
-    go : (o : Order) → compare_keys j end ≡ o → is_less o ≡ false
+    go : (o : Ordering) → compare_keys j end ≡ o → is_less o ≡ false
     go Less e = absurd (false≢true (sym h ∙ ap is_less (compare_trans k j end l e)))
     go Equal e = refl
     go Greater e = refl
@@ -129,15 +126,12 @@ pub record Passing (w b end : List ℕ) (from limit i count : ℕ) : Type 0 wher
   pub total : length (take limit (below end (rest w b from))) ≡ count + length (take (limit - count) (below end (rest w b i)))
   pub few : count ≤ limit
 
-pub passing_none : (w b end : List ℕ) (from limit : ℕ) → Passing w b end from limit from 0
-passing_none w b end from limit = record { total = rw (sub-zero limit) (omega arith); few = omega arith }
-
 module _ {w b end : List ℕ} {from limit i count : ℕ} (k : Passing w b end from limit i count) where
   passed : below end (rest w b i) ≡ [] → count ≡ length (take limit (below end (rest w b from)))
   passed over = sym (k.total ∙ ap (λ (l : Table). count + length (take (limit - count) l)) over ∙ ap (λ (l : Table). count + length l) (take-nil (limit - count)) ∙ omega arith)
 
-  module _ {o : Found} (is : o ≡ next_live w b i (count_word w - i)) where
-    module _ {j : ℕ} {name : Bytes} {r : Bool} (e : o ≡ At j) (n : name ≡ (version_at w b j).key) (g : r ≡ key_below name end) where
+  module _ {o : Option ℕ} (is : o ≡ next_live w b i (count_word w - i)) where
+    module _ {j : ℕ} {name : Bytes} {r : Bool} (e : o ≡ Some j) (n : name ≡ (version_at w b j).key) (g : r ≡ key_below name end) where
       pub passing_more : count < limit → r ≡ true → Passing w b end from limit (j + 1) (count + 1)
       passing_more h f =
           let z : limit - (count + 1) ≡ limit - count - 1 = omega arith in
@@ -154,32 +148,29 @@ module _ {w b end : List ℕ} {from limit i count : ℕ} (k : Passing w b end fr
           (ap (below end) (rest_some w b i is e)
           ∙ below_stop end (entry_at w b j) (rest w b (j + 1)) (subst (λ (t : Table). Ascending t) (rest_some w b i is e) (ascending_from w b i v)) (ap (λ (l : Key). key_below l end) (sym n) ∙ sym g ∙ f))
 
-    pub passing_over : o ≡ Nothing → count ≡ length (take limit (below end (rest w b from)))
+    pub passing_over : o ≡ None → count ≡ length (take limit (below end (rest w b from)))
     unfolding below keep
     passing_over e = passed (ap (below end) (rest_none w b i is e))
-
-  pub passing_end : limit ≤ count → count ≡ length (take limit (below end (rest w b from)))
-  passing_end h = let z : limit - count ≡ 0 = omega arith in sym (k.total ∙ rw z (omega arith))
 
 -- what was counted is there to be written
 pub range_fits : (w b end : List ℕ) (from limit : ℕ) {count : ℕ} → count ≡ length (take limit (below end (rest w b from))) → count ≤ length (rest w b from)
 range_fits w b end from limit c = omega (arith, length-take limit (below end (rest w b from)), below_few end (rest w b from))
 
 -- WRITING keys and values in turn. A key that does not fit has left zeros, and its value does not fit either
-module _ {a entry mid : Bytes} {put next : Put} (p : Adds a put entry next mid) (told : next ≡ Full) where
+module _ {a entry mid : Bytes} {put next : Option ℕ} (p : Adds a put entry next mid) (told : next ≡ None) where
   zeros : mid ≡ replicate (length entry) 0
   unfolding answered_behind placed_behind
   zeros = go put (sym told ∙ p.answer) p.buffer
     where
-      decide : (n : ℕ) (t : Bool) → Full ≡ cond t (Wrote (n + length a)) Full → mid ≡ cond t (take n entry ++ (a ++ drop (n + length a) entry)) (replicate (length entry) 0) → mid ≡ replicate (length entry) 0
+      decide : (n : ℕ) (t : Bool) → None ≡ cond t (Some (n + length a)) None → mid ≡ cond t (take n entry ++ (a ++ drop (n + length a) entry)) (replicate (length entry) 0) → mid ≡ replicate (length entry) 0
       decide n true e is = let z : ◌≡◌ {A = ℕ} 0 1 = cc in absurd (omega arith)
       decide n false e is = is
 
-      go : (u : Put) → Full ≡ answered_behind a u entry → mid ≡ placed_behind a u entry → mid ≡ replicate (length entry) 0
-      go (Wrote n) e is = decide n (leb (n + length a) (length entry)) e is
-      go Full e is = is
+      go : (u : Option ℕ) → None ≡ answered_behind a u entry → mid ≡ placed_behind a u entry → mid ≡ replicate (length entry) 0
+      go (Some n) e is = decide n (leb (n + length a) (length entry)) e is
+      go None e is = is
 
-  pub pair_full : (b : Bytes) → Adds (a ++ b) put entry Full mid
+  pub pair_full : (b : Bytes) → Adds (a ++ b) put entry None mid
   unfolding answered_behind placed_behind
   pair_full b =
       let kept : length mid ≡ length entry = ap length zeros ∙ length-replicate (length entry) 0 in
@@ -191,7 +182,7 @@ length_pairs [] = refl
 length_pairs (e ∷ t) = let ih = length_pairs t in omega arith
 
 -- two more items, written as one text
-listed_two : {whole rest : List Reply} (r s : Reply) {entry out exit : Bytes} {put next after : Put} → Listed whole (r ∷ s ∷ rest) put entry next out → Adds (encode r ++ encode s) next out after exit → Listed whole rest put entry after exit
+listed_two : {whole rest : List Reply} (r s : Reply) {entry out exit : Bytes} {put next after : Option ℕ} → Listed whole (r ∷ s ∷ rest) put entry next out → Adds (encode r ++ encode s) next out after exit → Listed whole rest put entry after exit
 unfolding encode_all items
 listed_two {rest = rest} r s g a = record {
   written = g.written ++ (encode r ++ encode s);
@@ -203,17 +194,15 @@ listed_two {rest = rest} r s g a = record {
 }
 
 -- the walk at place i, with `left` of `count` entries still to be written
-pub record Pairing (w b : List ℕ) (from count i left : ℕ) (put : Put) (entry : Bytes) (after : Put) (out : Bytes) : Type 0 where
+pub record Pairing (w b : List ℕ) (from count i left : ℕ) (put : Option ℕ) (entry : Bytes) (after : Option ℕ) (out : Bytes) : Type 0 where
   pub listed : Listed (pair_replies (take count (rest w b from))) (pair_replies (take left (rest w b i))) put entry after out
 
-pub pairing_none : (w b : List ℕ) (from count : ℕ) (put : Put) (entry : Bytes) → Pairing w b from count from count put entry put entry
-pairing_none w b from count put entry = record { listed = listed_none (pair_replies (take count (rest w b from))) put entry }
-
-module _ {w b : List ℕ} {from count i left : ℕ} {put next : Put} {entry mid : Bytes} (k : Pairing w b from count i left put entry next mid) where
-  pub pairing_more : {o : Found} {j : ℕ} {name value : Bytes} {after : Put} {exit : Bytes} → 0 < left → o ≡ next_live w b i (count_word w - i) → o ≡ At j → name ≡ (version_at w b j).key → value ≡ value_part w b j
-      → Adds (encode (BulkString name) ++ encode (BulkString value)) next mid after exit → Pairing w b from count (j + 1) (left - 1) put entry after exit
+module _ {w b : List ℕ} {from count i left : ℕ} {put next : Option ℕ} {entry mid : Bytes} (k : Pairing w b from count i left put entry next mid) where
+  pub pairing_more : {o : Option ℕ} {j : ℕ} {name value : Bytes} {after : Option ℕ} {exit : Bytes} {left' : ℕ} → 0 < left → left - 1 ≡ left' → o ≡ next_live w b i (count_word w - i) → o ≡ Some j
+      → name ≡ (version_at w b j).key → value ≡ value_part w b j → Adds (encode (BulkString name) ++ encode (BulkString value)) next mid after exit → Pairing w b from count (j + 1) left' put entry after exit
   unfolding pair_replies
-  pairing_more {j = j} h is e n x a =
+  pairing_more {j = j} h l is e n x a =
+      rw (← l)
       let q : take left (rest w b i) ≡ entry_at w b j ∷ take (left - 1) (rest w b (j + 1)) =
       ap (take left) (rest_some w b i is e) ∙ take_first h (entry_at w b j) (rest w b (j + 1)) in
       record {
@@ -225,7 +214,7 @@ module _ {w b : List ℕ} {from count i left : ℕ} {put next : Put} {entry mid 
     counted : 2 * count ≡ length (pair_replies (take count (rest w b from)))
     counted = sym (length_pairs (take count (rest w b from)) ∙ ap (λ (l : ℕ). 2 * l) (length-take-le count (rest w b from) fits))
 
-    pub pairing_full : next ≡ Full → Puts (encode (pairs_reply (take count (rest w b from)))) start Full mid
+    pub pairing_full : next ≡ None → Puts (encode (pairs_reply (take count (rest w b from)))) start None mid
     unfolding pairs_reply
     pairing_full told = listed_full (pair_replies (take count (rest w b from))) counted s (pair_replies (take left (rest w b i))) k.listed told
 
@@ -233,7 +222,7 @@ module _ {w b : List ℕ} {from count i left : ℕ} {put next : Put} {entry mid 
     unfolding pairs_reply pair_replies
     paired over = listed_all (pair_replies (take count (rest w b from))) counted s (relist (ap pair_replies over) k.listed)
 
-    pub pairing_over : {o : Found} → o ≡ next_live w b i (count_word w - i) → o ≡ Nothing → Puts (encode (pairs_reply (take count (rest w b from)))) start next mid
+    pub pairing_over : {o : Option ℕ} → o ≡ next_live w b i (count_word w - i) → o ≡ None → Puts (encode (pairs_reply (take count (rest w b from)))) start next mid
     pairing_over is e = paired (ap (take left) (rest_none w b i is e) ∙ take-nil left)
 
     pub pairing_end : left ≤ 0 → Puts (encode (pairs_reply (take count (rest w b from)))) start next mid
@@ -257,7 +246,7 @@ module _ (start : Key) (s : ℕ) (v : Version) where
   unfolding order_with order_of_versions key_below
   after_not_below e = go (compare_keys v.key start) e
     where
-      go : (o : Order) → is_less (then_by o (order_by (ltb s v.seq) (ltb v.seq s) Equal)) ≡ false → is_less o ≡ false
+      go : (o : Ordering) → is_less (then_by o (order_by (ltb s v.seq) (ltb v.seq s) Equal)) ≡ false → is_less o ≡ false
       go Less h = absurd (false≢true (sym h))
       go Equal h = refl
       go Greater h = refl
@@ -335,8 +324,8 @@ module _ (w b : List ℕ) (start end : Key) where
       ∙ (λ z. below end (live_from w b (e z) (count_word w - sym is z)))
 
   module _ (limit : ℕ) {from count : ℕ} (v : Valid w b) (is : from ≡ place_of start (last_word w) (versions_in w b)) (c : count ≡ length (take limit (below end (rest w b from)))) where
-    pub range_answer : {entry exit : Bytes} {put : Put} → Puts (encode (pairs_reply (take count (rest w b from)))) entry put exit
-        → Puts (encode (answer_listing (table (versions_in w b)) (RANGE start end (some limit)))) entry put exit
+    pub range_answer : {entry exit : Bytes} {put : Option ℕ} → Puts (encode (pairs_reply (take count (rest w b from)))) entry put exit
+        → Puts (encode (answer_listing (table (versions_in w b)) (RANGE start end (Some limit)))) entry put exit
     unfolding answer_listing pairs_reply
     range_answer a =
         same_text
@@ -346,7 +335,7 @@ module _ (w b : List ℕ) (start end : Key) where
 
 -- no limit is the highest one
 pub range_unlimited : (w b : List ℕ) (start end : Key) → Valid w b → count_word w ≤ 18446744073709551615
-    → answer_listing (table (versions_in w b)) (RANGE start end none) ≡ answer_listing (table (versions_in w b)) (RANGE start end (some 18446744073709551615))
+    → answer_listing (table (versions_in w b)) (RANGE start end None) ≡ answer_listing (table (versions_in w b)) (RANGE start end (Some 18446744073709551615))
 unfolding answer_listing
 range_unlimited w b start end v h =
     ap (λ (t : Table). array (pair_replies t))

@@ -9,12 +9,9 @@ use native.Mathlib.Omega.{arith}
 use lib.IntN.{ℤ, pos}
 use lib.ListN.{length, take, drop}
 use Rattle.base_key.specs.Bytes.{Bytes}
-use Rattle.base_writing.specs.declared.Put.{Put}
 use Rattle.base_writing.specs.Puts.{Puts}
 use Rattle.base_writing.proofs.Puts.{same_text}
 use Rattle.resp_spec.specs.Reply.{Integer, encode}
-use Rattle.store_memtable.specs.declared.Found.{Found}
-use Rattle.store_memtable.specs.declared.Found.TheVariants.{At, Nothing}
 use Rattle.store_memtable.specs.Table.{Table, Entry, Value}
 use Rattle.store_memtable.specs.Versions.{table}
 use Rattle.store_memtable.specs.Layout.{count_word}
@@ -23,6 +20,7 @@ use Rattle.store_memtable.specs.Walk.{live_at, entry_at, live_from, next_live}
 use Rattle.store_memtable.proofs.Walk.{live_table, walk_entry, walk_over}
 use Rattle.command_spec.specs.Command.{DBSIZE, answer_listing}
 use Rattle.command_listing.specs.Rest.{rest}
+use Rattle.std.specs.Prelude.{Option, None, Some}
 
 -- from the first place on: the table
 pub rest_all : (w b : List ℕ) → Valid w b → rest w b 0 ≡ table (versions_in w b)
@@ -44,12 +42,12 @@ unfolding rest
 rest_few w b i = omega (arith, live_few w b i (count_word w - i))
 
 -- what the walk finds from place i on
-module _ (w b : List ℕ) (i : ℕ) {o : Found} (is : o ≡ next_live w b i (count_word w - i)) where
-  pub rest_none : o ≡ Nothing → rest w b i ≡ []
+module _ (w b : List ℕ) (i : ℕ) {o : Option ℕ} (is : o ≡ next_live w b i (count_word w - i)) where
+  pub rest_none : o ≡ None → rest w b i ≡ []
   unfolding rest
   rest_none e = walk_over w b i (count_word w - i) (sym is ∙ e)
 
-  module _ {j : ℕ} (e : o ≡ At j) where
+  module _ {j : ℕ} (e : o ≡ Some j) where
     pub rest_some : rest w b i ≡ entry_at w b j ∷ rest w b (j + 1)
     unfolding rest
     rest_some =
@@ -62,7 +60,7 @@ pub table_few : (w b : List ℕ) → Valid w b → length (table (versions_in w 
 table_few w b v = omega (arith, rest_few w b 0, ap length (rest_all w b v))
 
 -- DBSIZE
-pub dbsize_answer : (w b : List ℕ) {n : ℕ} {z : ℤ} {entry exit : Bytes} {put : Put} → n ≡ length (table (versions_in w b)) → z ≡ pos n → Puts (encode (Integer z)) entry put exit → Puts (encode (answer_listing (table (versions_in w b)) DBSIZE)) entry put exit
+pub dbsize_answer : (w b : List ℕ) {n : ℕ} {z : ℤ} {entry exit : Bytes} {put : Option ℕ} → n ≡ length (table (versions_in w b)) → z ≡ pos n → Puts (encode (Integer z)) entry put exit → Puts (encode (answer_listing (table (versions_in w b)) DBSIZE)) entry put exit
 unfolding answer_listing
 dbsize_answer w b e f p = same_text (ap (λ (x : ℤ). encode (Integer x)) (sym (f ∙ ap pos e))) p
 

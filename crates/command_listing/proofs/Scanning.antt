@@ -1,5 +1,5 @@
 -- The laws of SCAN: skipping entries, the next cursor, the reply. Assumes nothing.
-use mathlib.Core.Path.{◌≡◌, refl, sym, ap, ◌∙◌}
+use mathlib.Core.Path.{◌≡◌, sym, ap, ◌∙◌}
 use mathlib.Core.Bool.{cond}
 use mathlib.Core.List.{List, [], ◌++◌, map, append_assoc, append-nil}
 use Prim.Native.Nat.{ℕ, suc, ◌+◌, ◌-◌, ◌≤◌, ◌<◌}
@@ -11,13 +11,9 @@ use lib.Seq.{drop-nil, drop-cons, drop-drop}
 use borrow.Author.Tests.{lt-ltb, le-ltb}
 use Rattle.base_key.specs.Bytes.{Bytes}
 use Rattle.base_number.specs.Decimal.{digits}
-use Rattle.base_writing.specs.declared.Put.{Put}
-use Rattle.base_writing.specs.declared.Put.TheVariants.{Full}
 use Rattle.base_writing.specs.Puts.{Puts, Adds}
 use Rattle.base_writing.proofs.Puts.{then_puts, full_longer, same_text}
 use Rattle.resp_spec.specs.Reply.{BulkString, array, items, count_items, head, encode, encode_all}
-use Rattle.store_memtable.specs.declared.Found.{Found}
-use Rattle.store_memtable.specs.declared.Found.TheVariants.{At, Nothing}
 use Rattle.store_memtable.specs.Table.{Table}
 use Rattle.store_memtable.specs.Versions.{table}
 use Rattle.store_memtable.specs.Layout.{count_word}
@@ -28,50 +24,40 @@ use Rattle.command_spec.specs.Glob.{glob}
 use Rattle.command_listing.specs.Rest.{rest, matching, keys_reply, SeenFrom, cursor_before}
 use Rattle.command_listing.proofs.Matching.{seen_keys}
 use Rattle.command_listing.proofs.Rests.{rest_all, rest_few, rest_none, rest_some, drop_first}
+use Rattle.std.specs.Prelude.{Option, None, Some}
 
 -- the walk at place i, with `left` of `count` entries still to be skipped
 pub record Skipping (w b : List ℕ) (count i left : ℕ) : Type 0 where
   pub stop : drop left (rest w b i) ≡ drop count (rest w b 0)
 
-pub skipping_none : (w b : List ℕ) (count : ℕ) → Skipping w b count 0 count
-skipping_none w b count = record { stop = refl }
-
 module _ {w b : List ℕ} {count i left : ℕ} (k : Skipping w b count i left) where
-  module _ {o : Found} (is : o ≡ next_live w b i (count_word w - i)) where
-    pub skipping_more : {j : ℕ} → o ≡ At j → 0 < left → Skipping w b count (j + 1) (left - 1)
-    skipping_more {j} e h = record {
-      stop = sym (drop_first h (entry_at w b j) (rest w b (j + 1))) ∙ ap (drop left) (sym (rest_some w b i is e)) ∙ k.stop;
+  module _ {o : Option ℕ} (is : o ≡ next_live w b i (count_word w - i)) where
+    pub skipping_more : {j left' : ℕ} → o ≡ Some j → 0 < left → left - 1 ≡ left' → Skipping w b count (j + 1) left'
+    skipping_more {j} e h l = record {
+      stop = ap (λ (n : ℕ). drop n (rest w b (j + 1))) (sym l) ∙ sym (drop_first h (entry_at w b j) (rest w b (j + 1))) ∙ ap (drop left) (sym (rest_some w b i is e)) ∙ k.stop;
     }
 
-    pub skipping_over : o ≡ Nothing → rest w b i ≡ drop count (rest w b 0)
+    pub skipping_over : o ≡ None → rest w b i ≡ drop count (rest w b 0)
     skipping_over e =
         let none = rest_none w b i is e in
         none ∙ sym (drop-nil left) ∙ ap (drop left) (sym none) ∙ k.stop
 
-  pub skipping_end : left ≤ 0 → rest w b i ≡ drop count (rest w b 0)
-  skipping_end h = let z : left ≡ 0 = omega arith in ap (λ (x : ℕ). drop x (rest w b i)) (sym z) ∙ k.stop
-
 -- the next cursor, from what the walk finds
-module _ (w b : List ℕ) (i end : ℕ) {o : Found} (is : o ≡ next_live w b i (count_word w - i)) where
-  pub cursor_none : o ≡ Nothing → 0 ≡ cursor_before (rest w b i) end
+module _ (w b : List ℕ) (i end : ℕ) {o : Option ℕ} (is : o ≡ next_live w b i (count_word w - i)) where
+  pub cursor_none : o ≡ None → 0 ≡ cursor_before (rest w b i) end
   unfolding cursor_before
   cursor_none e = ap (λ (t : Table). cursor_before t end) (sym (rest_none w b i is e))
 
-  pub cursor_more : {j : ℕ} → o ≡ At j → end ≡ cursor_before (rest w b i) end
+  pub cursor_more : {j : ℕ} → o ≡ Some j → end ≡ cursor_before (rest w b i) end
   unfolding cursor_before
   cursor_more e = ap (λ (t : Table). cursor_before t end) (sym (rest_some w b i is e))
 
 -- where an entry follows, the sum is below the number of entries
-pub cursor_fits : (w b : List ℕ) (i from most : ℕ) {o : Found} {j : ℕ} → o ≡ next_live w b i (count_word w - i) → o ≡ At j → rest w b i ≡ drop most (drop from (rest w b 0)) → from + most < count_word w
+pub cursor_fits : (w b : List ℕ) (i from most : ℕ) {o : Option ℕ} {j : ℕ} → o ≡ next_live w b i (count_word w - i) → o ≡ Some j → rest w b i ≡ drop most (drop from (rest w b 0)) → from + most < count_word w
 cursor_fits w b i from most {j = j} is e stop =
     let there : length (drop (from + most) (rest w b 0)) ≡ suc (length (rest w b (j + 1))) =
     ap length (sym (drop-drop most from (rest w b 0)) ∙ sym stop ∙ rest_some w b i is e) in
     omega (arith, there, length-drop (from + most) (rest w b 0), rest_few w b 0)
-
--- the walk stops behind the skipped entries and those that it saw
-pub walk_stop : {w b p : List ℕ} (from most : ℕ) {at matched next : ℕ} → rest w b at ≡ drop from (rest w b 0) → SeenFrom w b p at most matched next
-    → rest w b next ≡ drop most (drop from (rest w b 0))
-walk_stop from most skipped seen = seen.stop ∙ ap (drop most) skipped
 
 -- by how many entries there are
 cursor_is : (n end : ℕ) (t : Table) → cursor_before (drop n t) end ≡ cond (ltb n (length t)) end 0
@@ -104,10 +90,10 @@ module _ (w b p : List ℕ) (from most : ℕ) {at matched next follows : ℕ} (v
       ∙ ap (λ (l : Bytes). head 42 2 ++ (encode (BulkString (digits follows)) ++ l)) (append-nil (encode (array (map key_reply (take matched (matching p (rest w b at)))))))
       ∙ sym (append_assoc (head 42 2) (encode (BulkString (digits follows))) (encode (array (map key_reply (take matched (matching p (rest w b at)))))))
 
-  module _ {l0 l1 l2 : Bytes} {u1 u2 : Put} (x : Puts (head 42 2) l0 u1 l1) (y : Adds (encode (BulkString (digits follows))) u1 l1 u2 l2) where
-    pub scan_full : u2 ≡ Full → Puts (encode (answer_listing (table (versions_in w b)) (SCAN from p most))) l0 Full l2
+  module _ {l0 l1 l2 : Bytes} {u1 u2 : Option ℕ} (x : Puts (head 42 2) l0 u1 l1) (y : Adds (encode (BulkString (digits follows))) u1 l1 u2 l2) where
+    pub scan_full : u2 ≡ None → Puts (encode (answer_listing (table (versions_in w b)) (SCAN from p most))) l0 None l2
     scan_full told = full_longer (encode (keys_reply (take matched (matching p (rest w b at))))) text_is (then_puts x y) told
 
-    pub scan_answer : {l3 : Bytes} {u3 : Put} → Adds (encode (keys_reply (take matched (matching p (rest w b at))))) u2 l2 u3 l3
+    pub scan_answer : {l3 : Bytes} {u3 : Option ℕ} → Adds (encode (keys_reply (take matched (matching p (rest w b at))))) u2 l2 u3 l3
         → Puts (encode (answer_listing (table (versions_in w b)) (SCAN from p most))) l0 u3 l3
     scan_answer z = same_text text_is (then_puts (then_puts x y) z)

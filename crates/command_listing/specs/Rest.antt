@@ -3,6 +3,7 @@ use Rattle.std.specs.Prelude.{ℕ, ◌-◌, ◌≡◌, Bool, true, false, List, 
 use Rattle.base_key.specs.Bytes.{Bytes}
 use Rattle.base_key.specs.Keys.{Key, key_below}
 use Rattle.resp_spec.specs.Reply.{Reply, array}
+use Rattle.store_memtable.specs.declared.store.Store.{Store}
 use Rattle.store_memtable.specs.Table.{Table}
 use Rattle.store_memtable.specs.Layout.{count_word}
 use Rattle.store_memtable.specs.Walk.{live_from}
@@ -12,6 +13,10 @@ use Rattle.command_spec.specs.Glob.{glob}
 -- the entries from place i on
 unfoldable pub rest : List ℕ → Bytes → ℕ → Table
 rest w b i = live_from w b i (count_word w - i)
+
+-- the entries of a lent store from place i on
+abbrev pub rest_of : Store → ℕ → Table
+rest_of s i = rest s.words.now s.bytes.now i
 
 -- those whose key matches
 unfoldable pub matching : Bytes → Table → Table

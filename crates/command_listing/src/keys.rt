@@ -3,16 +3,16 @@ ghost use Rattle.std.specs.Prelude.{◌≡◌, ◌≤◌, length, take};
 ghost use Rattle.base_writing.specs.Puts.{Puts};
 ghost use Rattle.resp_spec.specs.Reply.{encode};
 ghost use Rattle.store_memtable.specs.Versions.{table};
-ghost use Rattle.store_memtable.specs.Rows.{Valid, versions_in};
+ghost use Rattle.store_memtable.specs.Reading.{versions_of};
 ghost use Rattle.command_spec.specs.Command.{KEYS, answer_listing};
 ghost use Rattle.command_spec.specs.Glob.{glob};
 ghost use Rattle.command_spec.specs.GlobWalk.{LastStar};
-ghost use Rattle.command_listing.specs.Rest.{rest, matching, keys_reply, one_if, SeenFrom};
+ghost use Rattle.command_listing.specs.Rest.{rest_of, matching, keys_reply, one_if, SeenFrom};
 
-use base_writing::Put;
 use command_spec::pattern::{Compared, Last};
 use resp_encode::reply;
-use store_memtable::{COUNT, Found, live, read};
+use store_memtable::COUNT;
+use store_memtable::store::Store;
 
 // What a walk saw: how many keys match, and the place where it stopped.
 #[derive(Clone, Copy)]
@@ -27,45 +27,26 @@ fn one_if_matching(pattern: &[u8], behind: usize, count: usize, name: &[u8]) -> 
     requires { LastStar pattern.now behind count }
     ensures { result ≡ one_if (glob pattern.now name.now) }
 {
-    let answer = command_glob::compare_with(pattern, behind, count, name);
-    match answer {
+    match command_glob::compare_with(pattern, behind, count, name) {
         Compared::Matches => 1,
-        Compared::Differs => 0,
-        Compared::DiffersByTheEnd => 0,
+        _ => 0,
     }
 }
 
 // Counts the matching keys among the first `most` entries from `from` on.
-pub fn count_matches(
-    words: &[u64],
-    bytes: &[u8],
-    pattern: &[u8],
-    last: Last,
-    from: usize,
-    most: u64,
-) -> Seen
-    requires valid { Valid words.now bytes.now }
+pub fn count_matches(store: &Store, pattern: &[u8], last: Last, from: usize, most: u64) -> Seen
     requires last_star { LastStar pattern.now last.behind last.count }
-    ensures { SeenFrom words.now bytes.now pattern.now from most result.matched result.next }
+    ensures { SeenFrom store.now.words.now store.now.bytes.now pattern.now from most result.matched result.next }
 {
     let mut i = from;
-    let mut left = most;
     let mut matched = 0;
-    while 0 < left {
-        let found = live::next_live(words, bytes, i);
-        match found {
-            Found::Nothing => return Seen { matched, next: i },
-            Found::At(j) => {
-                matched += one_if_matching(
-                    pattern,
-                    last.behind,
-                    last.count,
-                    read::key_of(words, bytes, j),
-                );
-                i = j + 1;
-                left -= 1;
-            }
-        }
+    for _looked in 0..most {
+        let Some(j) = store.next_live(i) else {
+            break;
+        };
+        let name = store.key(j);
+        matched += one_if_matching(pattern, last.behind, last.count, name);
+        i = j + 1;
     }
     Seen { matched, next: i }
 }
@@ -73,49 +54,41 @@ pub fn count_matches(
 // Writes the array of the first `count` matching keys from `from` on, up to one that does not fit.
 pub fn put_matches(
     out: &mut [u8],
-    words: &[u64],
-    bytes: &[u8],
+    store: &Store,
     pattern: &[u8],
     last: Last,
     from: usize,
     count: u64,
-) -> Put
-    requires valid { Valid words.now bytes.now }
+) -> Option<usize>
     requires last_star { LastStar pattern.now last.behind last.count }
-    requires count_in_bounds { count ≤ length (matching pattern.now (rest words.now bytes.now from)) }
-    ensures { Puts (encode (keys_reply (take count (matching pattern.now (rest words.now bytes.now from))))) out.old result out.new }
+    requires count_in_bounds { count ≤ length (matching pattern.now (rest_of store.now from)) }
+    ensures { Puts (encode (keys_reply (take count (matching pattern.now (rest_of store.now from))))) out.old result out.new }
 {
     let mut put = reply::put_head(out, b'*', count);
     let mut i = from;
     let mut left = count;
     while 0 < left {
-        let Put::Wrote(_) = put else {
-            return Put::Full;
+        let Some(_) = put else {
+            return None;
         };
-        let found = live::next_live(words, bytes, i);
-        match found {
-            Found::Nothing => return put,
-            Found::At(j) => {
-                let name = read::key_of(words, bytes, j);
-                if command_glob::glob(pattern, last.behind, last.count, name) {
-                    put = resp_items::then_bulk(out, put, name);
-                    i = j + 1;
-                    left -= 1;
-                } else {
-                    i = j + 1;
-                }
-            }
+        let Some(j) = store.next_live(i) else {
+            return put;
+        };
+        i = j + 1;
+        let name = store.key(j);
+        if command_glob::glob(pattern, last.behind, last.count, name) {
+            put = resp_items::then_bulk(out, put, name);
+            left -= 1;
         }
     }
     put
 }
 
 // KEYS.
-pub fn put_keys(out: &mut [u8], words: &[u64], bytes: &[u8], pattern: &[u8]) -> Put
-    requires { Valid words.now bytes.now }
-    ensures { Puts (encode (answer_listing (table (versions_in words.now bytes.now)) (KEYS pattern.now))) out.old result out.new }
+pub fn put_keys(out: &mut [u8], store: &Store, pattern: &[u8]) -> Option<usize>
+    ensures { Puts (encode (answer_listing (table (versions_of store.now)) (KEYS pattern.now))) out.old result out.new }
 {
     let last = command_glob::last_star(pattern);
-    let seen = count_matches(words, bytes, pattern, last, 0, words[COUNT]);
-    put_matches(out, words, bytes, pattern, last, 0, seen.matched)
+    let seen = count_matches(store, pattern, last, 0, store.words[COUNT]);
+    put_matches(out, store, pattern, last, 0, seen.matched)
 }

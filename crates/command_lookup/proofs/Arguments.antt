@@ -4,7 +4,7 @@ use native.Mathlib.Omega.{arith}
 use mathlib.Core.Path.{◌≡◌, refl, sym, ap, ◌∙◌}
 use mathlib.Core.Bool.{Bool, true, false}
 use mathlib.Core.List.{List, [], ◌∷◌}
-use mathlib.Core.Option.{Option, none, some}
+use Rattle.std.specs.Prelude.{Option, None, Some}
 use lib.ListN.{length}
 use Rattle.base_key.specs.Bytes.{Bytes}
 use Rattle.base_key.specs.Keys.{Key}
@@ -23,8 +23,8 @@ live_few r [] = omega arith
 live_few r (k ∷ ks) = go (r k) (live_few r ks)
   where
     go : (x : Option Value) → live r ks ≤ length ks → live_one x + live r ks ≤ suc (length ks)
-    go none h = omega arith
-    go (some v) h = omega arith
+    go None h = omega arith
+    go (Some v) h = omega arith
 
 pub live_within : (r : Reader) (from n : ℕ) (places : List ℕ) (input : Bytes) → live r (arguments_at from n places input) ≤ n
 live_within r from n places input = omega (arith, live_few r (arguments_at from n places input), arguments_count from n places input)
@@ -32,12 +32,12 @@ live_within r from n places input = omega (arith, live_few r (arguments_at from 
 -- one key
 module _ (r : Reader) (k : Key) {t : Bool} (is : t ≡ is_live (r k)) where
   one_live : (x : Option Value) → t ≡ is_live x → t ≡ true → 1 ≡ live_one x
-  one_live none e l = let z : ◌≡◌ {A = ℕ} 0 1 = cc in absurd (omega arith)
-  one_live (some v) e l = refl
+  one_live None e l = let z : ◌≡◌ {A = ℕ} 0 1 = cc in absurd (omega arith)
+  one_live (Some v) e l = refl
 
   one_absent : (x : Option Value) → t ≡ is_live x → t ≡ false → 0 ≡ live_one x
-  one_absent none e l = refl
-  one_absent (some v) e l = let z : ◌≡◌ {A = ℕ} 0 1 = cc in absurd (omega arith)
+  one_absent None e l = refl
+  one_absent (Some v) e l = let z : ◌≡◌ {A = ℕ} 0 1 = cc in absurd (omega arith)
 
   pub counts_live : t ≡ true → CountsOne r k 1
   counts_live l = record { is = one_live (r k) is l; small = omega arith }

@@ -3,38 +3,18 @@ use Prim.Native.Nat.{ℕ, suc, ◌+◌, ◌-◌, ◌*◌, ◌≤◌, ◌<◌}
 use native.Mathlib.Omega.{arith}
 use mathlib.Core.Path.{◌≡◌, refl, sym, ap, ◌∙◌}
 use mathlib.Core.List.{List, [], ◌∷◌}
-use mathlib.Core.Option.{Option, some}
 use lib.ListN.{length}
 use Rattle.base_key.specs.Bytes.{Bytes}
 use Rattle.base_key.specs.Keys.{Key}
-use Rattle.base_writing.specs.declared.Put.{Put}
-use Rattle.base_writing.specs.declared.Put.TheVariants.{Full}
 use Rattle.base_writing.specs.Puts.{Puts, Adds}
-use Rattle.base_writing.proofs.Puts.{same_added}
-use Rattle.resp_spec.specs.Reply.{BulkString, Nil, head, encode, array, bulk_or}
+use Rattle.resp_spec.specs.Reply.{head, encode, array, bulk_or}
 use Rattle.resp_encode.proofs.Replies.{Listed, listed_none, listed_more, listed_full, listed_all}
 use Rattle.store_memtable.specs.Table.{Reader}
-use Rattle.store_memtable.specs.Layout.{value_part}
-use Rattle.group_spec.specs.Members.{write_at}
 use Rattle.group_spec.specs.Settling.{key_part}
 use Rattle.command_spec.specs.Places.{arguments_at}
 use Rattle.command_spec.proofs.PlaceLaws.{arguments_count, arguments_next, arguments_end}
-use Rattle.command_writes.specs.Own.{reader_of}
-use Rattle.command_lookup.specs.declared.Seen.{Seen}
-use Rattle.command_lookup.specs.declared.Seen.TheVariants.{Written, Stored, Absent}
-use Rattle.command_lookup.specs.See.{Sees, value_replies}
-use Rattle.command_lookup.proofs.Seeing.{seen_written, seen_stored, seen_absent}
-
--- A VALUE, or nil
-module _ (own : List ℕ) (d : Bytes) (n : ℕ) (w : List ℕ) (b : Bytes) (s : ℕ) (k : Key) {x : Seen} (p : Sees own d n w b s k x) {entry exit : Bytes} {put after : Put} where
-  pub value_written : {j : ℕ} {v : Bytes} → x ≡ Written j → some v ≡ (write_at own d j).1 → Adds (encode (BulkString v)) put entry after exit → Adds (encode (bulk_or (reader_of own d n w b s k))) put entry after exit
-  value_written e is a = same_added (ap (λ (o : Option Bytes). encode (bulk_or o)) (seen_written own d n w b s k p e is)) a
-
-  pub value_stored : {i : ℕ} {v : Bytes} → x ≡ Stored i → v ≡ value_part w b i → Adds (encode (BulkString v)) put entry after exit → Adds (encode (bulk_or (reader_of own d n w b s k))) put entry after exit
-  value_stored e is a = same_added (ap (λ (o : Option Bytes). encode (bulk_or o)) (seen_stored own d n w b s k p e is)) a
-
-  pub value_absent : x ≡ Absent → Adds (encode Nil) put entry after exit → Adds (encode (bulk_or (reader_of own d n w b s k))) put entry after exit
-  value_absent e a = same_added (ap (λ (o : Option Bytes). encode (bulk_or o)) (seen_absent own d n w b s k p e)) a
+use Rattle.command_lookup.specs.See.{value_replies}
+use Rattle.std.specs.Prelude.{Option, None}
 
 -- AN ARRAY of values
 replies_long : (r : Reader) (ks : List Key) → length (value_replies r ks) ≡ length ks
@@ -42,15 +22,15 @@ replies_long r [] = refl
 replies_long r (k ∷ ks) = ap suc (replies_long r ks)
 
 -- the values of the keys from place i on are still to be written
-pub record ValuesFrom (r : Reader) (places : List ℕ) (input : Bytes) (from to i : ℕ) (put : Put) (entry : Bytes) (after : Put) (out : Bytes) : Type 0 where
+pub record ValuesFrom (r : Reader) (places : List ℕ) (input : Bytes) (from to i : ℕ) (put : Option ℕ) (entry : Bytes) (after : Option ℕ) (out : Bytes) : Type 0 where
   pub within : i ≤ to
   pub listed : Listed (value_replies r (arguments_at from (to - from) places input)) (value_replies r (arguments_at i (to - i) places input)) put entry after out
 
-pub values_none : (r : Reader) (places : List ℕ) (input : Bytes) {from to : ℕ} (put : Put) (entry : Bytes) → from ≤ to → ValuesFrom r places input from to from put entry put entry
+pub values_none : (r : Reader) (places : List ℕ) (input : Bytes) {from to : ℕ} (put : Option ℕ) (entry : Bytes) → from ≤ to → ValuesFrom r places input from to from put entry put entry
 values_none r places input {from} {to} put entry h = record { within = h; listed = listed_none (value_replies r (arguments_at from (to - from) places input)) put entry }
 
-module _ {r : Reader} {places : List ℕ} {input : Bytes} {from to i : ℕ} {put next : Put} {entry mid : Bytes} (g : ValuesFrom r places input from to i put entry next mid) where
-  pub values_more : (k : Key) {after : Put} {exit : Bytes} → i < to → k ≡ key_part places input (2 * i) → Adds (encode (bulk_or (r k))) next mid after exit → ValuesFrom r places input from to (i + 1) put entry after exit
+module _ {r : Reader} {places : List ℕ} {input : Bytes} {from to i : ℕ} {put next : Option ℕ} {entry mid : Bytes} (g : ValuesFrom r places input from to i put entry next mid) where
+  pub values_more : (k : Key) {after : Option ℕ} {exit : Bytes} → i < to → k ≡ key_part places input (2 * i) → Adds (encode (bulk_or (r k))) next mid after exit → ValuesFrom r places input from to (i + 1) put entry after exit
   values_more k h k-is a =
       let e : value_replies r (arguments_at i (to - i) places input) ≡ bulk_or (r k) ∷ value_replies r (arguments_at (i + 1) (to - (i + 1)) places input) =
       ap (value_replies r) (arguments_next places input h)
@@ -61,7 +41,7 @@ module _ {r : Reader} {places : List ℕ} {input : Bytes} {from to i : ℕ} {put
   counted = sym (replies_long r (arguments_at from (to - from) places input) ∙ arguments_count from (to - from) places input)
 
   module _ {start : Bytes} (p : Puts (head 42 (to - from)) start put entry) where
-    pub values_full : next ≡ Full → Puts (encode (array (value_replies r (arguments_at from (to - from) places input)))) start Full mid
+    pub values_full : next ≡ None → Puts (encode (array (value_replies r (arguments_at from (to - from) places input)))) start None mid
     values_full told = listed_full (value_replies r (arguments_at from (to - from) places input)) counted p (value_replies r (arguments_at i (to - i) places input)) g.listed told
 
     pub values_all : to ≤ i → Puts (encode (array (value_replies r (arguments_at from (to - from) places input)))) start next mid

@@ -3,13 +3,5 @@
 
 pub mod counter;
 pub mod live;
-pub mod see;
+pub mod reader;
 pub mod values;
-
-// The place of the value that a read gives: a row of the own writes, a version of the store, or none.
-#[derive(Clone, Copy)]
-pub enum Seen {
-    Written(usize),
-    Stored(usize),
-    Absent,
-}

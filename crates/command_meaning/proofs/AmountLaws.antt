@@ -1,74 +1,52 @@
 -- Laws of numbers from 0 or from 1 on, as the code reads them. Assumes nothing.
-use mathlib.Core.Path.{◌≡◌, refl, sym, ap, ◌∙◌, subst⁻¹}
-use mathlib.Core.Bool.{Bool, true, false}
-use mathlib.Core.Option.{none, some}
+use mathlib.Core.Path.{◌≡◌, refl}
+use mathlib.Core.Bool.{true, false, false≢true}
+use Rattle.std.specs.Prelude.{None, Some}
 use Prim.Native.Nat.{ℕ, zero, suc, ◌^◌, ◌<◌, ◌≤◌}
 use native.Mathlib.Omega.{arith}
-use borrow.Author.Tests.{ltb-true, ltb-false}
-use lib.Dec.{T}
+use borrow.Author.Tests.{leb-false}
 use lib.IntN.{ℤ, pos, negsuc, nat_abs}
-use lib.Signed.{mag, lt_z, non_neg}
+use lib.Signed.{mag, le_z}
 use mir.Syntax.{w64}
-use mir.Val.{Fits, SFits}
 use mir.ValLaws.{to_z-of_z}
-use Rattle.base_number.specs.declared.Number.{Number}
-use Rattle.base_number.specs.declared.Number.TheVariants.{Int}
-use Rattle.base_number.proofs.Signed.{at_bits, bits}
+use Rattle.base_number.proofs.Signed.{bits}
 use Rattle.command_spec.specs.Command.{natural, positive}
+use Rattle.std.specs.Prelude.{Option}
 
--- a number from k on
-record From (k : ℕ) (z : ℤ) : Type 0 where
-  size : ℕ
-  is : z ≡ pos size
-  least : k ≤ size
-  small : size < 2 ^ 63
+from_zero : (z : ℤ) → le_z (pos 0) z ≡ true → Some (nat_abs z) ≡ natural (Some z)
+from_zero (pos m) t = refl
+from_zero (negsuc m) t = absurd (false≢true t)
 
-from_least : (k : ℕ) (z : ℤ) → SFits w64 z → lt_z z (pos k) ≡ false → From k z
-from_least k (pos m) h t = record { size = m; is = refl; least = ltb-false m k t; small = h.sfits }
-from_least k (negsuc m) h t = let z : ◌≡◌ {A = ℕ} 0 1 = cc in absurd (omega arith)
+below_zero : (z : ℤ) → le_z (pos 0) z ≡ false → None ≡ natural (Some z)
+below_zero (pos m) t = let l : m < 0 = leb-false 0 m t in absurd (omega arith)
+below_zero (negsuc m) t = refl
 
-natural_below : (z : ℤ) → lt_z z (pos 0) ≡ true → none ≡ natural (Int z)
-natural_below (pos m) t = let l : m < 0 = ltb-true m 0 t in absurd (omega arith)
-natural_below (negsuc m) t = refl
+-- the number that the code read, and its test
+module _ {n : Option ℤ} {z : ℤ} (is : n ≡ Some z) (small : mag z < 2 ^ 63) where
+  plain : bits z ≡ z
+  plain = to_z-of_z w64 z (record { sfits = small })
 
-positive_below : (z : ℤ) → lt_z z (pos 1) ≡ true → none ≡ positive (Int z)
-positive_below (pos zero) t = refl
-positive_below (pos (suc m)) t = let l : suc m < 1 = ltb-true (suc m) 1 t in absurd (omega arith)
-positive_below (negsuc m) t = refl
+  pub natural_read : le_z (pos 0) (bits z) ≡ true → Some (nat_abs (bits z)) ≡ natural n
+  natural_read t = rw (is, plain) (from_zero z (rw plain at t))
 
-positive_size : (m : ℕ) → 1 ≤ m → some m ≡ positive (Int (pos m))
-positive_size zero h = absurd (omega arith)
-positive_size (suc m) h = refl
+  pub no_natural : le_z (pos 0) (bits z) ≡ false → None ≡ natural n
+  no_natural t = rw is (below_zero z (rw plain at t))
 
--- the number that the code read, and its tests
-module _ {n : Number} {z : ℤ} (is : n ≡ Int z) (small : mag z < 2 ^ 63) where
-  fits : SFits w64 z
-  fits = record { sfits = small }
+-- a number from 1 on is one from 0 on that is not 0
+pub positive_read : (n : Option ℤ) {v : ℕ} → Some v ≡ natural n → 0 < v → Some v ≡ positive n
+positive_read (Some (pos zero)) {v} e h = let z : v ≡ 0 = cc in absurd (omega arith)
+positive_read (Some (pos (suc m))) e h = e
+positive_read (Some (negsuc m)) e h = e
+positive_read None e h = e
 
-  tested : (k : ℕ) {t : Bool} → lt_z (bits z) (pos k) ≡ t → lt_z z (pos k) ≡ t
-  tested k e = ap (λ (x : ℤ). lt_z x (pos k)) (sym (to_z-of_z w64 z fits)) ∙ e
+pub no_positive : (n : Option ℤ) {v : ℕ} → Some v ≡ natural n → v ≤ 0 → None ≡ positive n
+no_positive (Some (pos zero)) e h = refl
+no_positive (Some (pos (suc m))) {v} e h = let z : v ≡ suc m = cc in absurd (omega arith)
+no_positive (Some (negsuc m)) e h = refl
+no_positive None e h = refl
 
-  read_from : (k : ℕ) → lt_z (bits z) (pos k) ≡ false → From k z
-  read_from k t = from_least k z fits (tested k t)
-
-  pub cast_from : (k : ℕ) → lt_z (bits z) (pos k) ≡ false → (T (non_neg (bits z))) × (Fits w64 (nat_abs (bits z)))
-  cast_from k t =
-      let f = read_from k t in
-      at_bits fits (λ (x : ℤ). (T (non_neg x)) × (Fits w64 (nat_abs x)))
-      (subst⁻¹ (λ (x : ℤ). (T (non_neg x)) × (Fits w64 (nat_abs x))) f.is (tt, record { fits = omega (arith, f.small) }))
-
-  pub no_natural : lt_z (bits z) (pos 0) ≡ true → none ≡ natural n
-  no_natural t = natural_below z (tested 0 t) ∙ ap natural (sym is)
-
-  pub natural_read : lt_z (bits z) (pos 0) ≡ false → some (nat_abs (bits z)) ≡ natural n
-  natural_read t =
-      let f = read_from 0 t in
-      ap (λ (x : ℤ). some (nat_abs x)) (to_z-of_z w64 z fits ∙ f.is) ∙ ap natural (sym (is ∙ ap Int f.is))
-
-  pub no_positive : lt_z (bits z) (pos 1) ≡ true → none ≡ positive n
-  no_positive t = positive_below z (tested 1 t) ∙ ap positive (sym is)
-
-  pub positive_read : lt_z (bits z) (pos 1) ≡ false → some (nat_abs (bits z)) ≡ positive n
-  positive_read t =
-      let f = read_from 1 t in
-      ap (λ (x : ℤ). some (nat_abs x)) (to_z-of_z w64 z fits ∙ f.is) ∙ positive_size f.size f.least ∙ ap positive (sym (is ∙ ap Int f.is))
+pub positive_missing : (n : Option ℤ) → None ≡ natural n → None ≡ positive n
+positive_missing (Some (pos zero)) e = refl
+positive_missing (Some (pos (suc m))) e = e
+positive_missing (Some (negsuc m)) e = refl
+positive_missing None e = refl

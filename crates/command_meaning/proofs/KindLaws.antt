@@ -5,7 +5,7 @@ use native.Mathlib.Omega.{arith}
 use mathlib.Core.Path.{◌≡◌, refl, sym, ap, ◌∙◌, subst}
 use mathlib.Core.Bool.{Bool, true, false, cond, not, ◌&&◌, ◌||◌, false≢true}
 use mathlib.Core.List.{List, [], ◌∷◌, map}
-use mathlib.Core.Option.{some}
+use Rattle.std.specs.Prelude.{Some}
 use borrow.Author.Tests.{leb-true, ltb-false, eqb-true, eq-eqb, ne_eqb}
 use lib.Dec.{leb, eqb}
 use lib.IntN.{ℤ, pos, negsuc}
@@ -16,8 +16,6 @@ use mir.Val.{SFits}
 use mir.ValLaws.{to_z-of_z}
 use Rattle.base_key.specs.Bytes.{Bytes}
 use Rattle.base_key.proofs.Bytes.{both_parts}
-use Rattle.base_number.specs.declared.Number.{Number}
-use Rattle.base_number.specs.declared.Number.TheVariants.{Int, Bad}
 use Rattle.base_number.specs.Number.{int_arg}
 use Rattle.base_number.proofs.Signed.{bits}
 use Rattle.resp_spec.specs.Reply.{BulkString, bulk_or}
@@ -28,7 +26,7 @@ use Rattle.command_spec.specs.declared.Name.{Name}
 use Rattle.command_spec.specs.declared.Name.TheVariants.{Queueable}
 use Rattle.command_spec.specs.declared.Fixed.TheVariants.{NotInteger, Pong}
 use Rattle.command_spec.specs.Names.{Args, Row, rows, unknown_row, same_name, row_in, row_of, name_word, arguments, count_right, with_options, operation_of, may_queue, request_queueable, not_above}
-use Rattle.command_spec.specs.Command.{argument, count_by, pairs_of, request_operation, command_as, held, raised, run}
+use Rattle.command_spec.specs.Command.{argument, count_by, pairs_of, command_as, held, raised, run}
 use Rattle.command_spec.specs.Errors.{fixed_reply}
 use Rattle.command_spec.proofs.Pins.{queueable_named}
 use Rattle.command_names.specs.declared.Row.{Row as CodeRow}
@@ -39,6 +37,7 @@ use Rattle.command_meaning.specs.declared.Kind.{Kind}
 use Rattle.command_meaning.specs.declared.Kind.TheVariants.{Pairs, Tombstones, Counter, Reads}
 use Rattle.command_meaning.specs.Kinds.{InPairs, live_reply, read_reply, least_read, pairs_effect, tombstones_effect, counter_effect, kind_effect, KindCounted, KindIs}
 use Rattle.command_meaning.specs.Reading.{row_place, KindFor}
+use Rattle.std.specs.Prelude.{Option, None}
 
 -- THE ARGUMENTS behind the name
 pub behind : (k : ℕ) (a : Args) → argument k (arguments a) ≡ argument (suc k) a
@@ -63,7 +62,7 @@ module _ (r : Row) (n : ℕ) (right : count_right r n ≡ true) where
   unfolding count_right
   right_least = leb-true r.least n (both_parts (leb r.least n) (not_above n r.most) (both_parts _ (not r.pairs || eqb (n % 2) 0) right).0).0
 
-  pub right_most : (m : ℕ) → r.most ≡ some m → n ≤ m
+  pub right_most : (m : ℕ) → r.most ≡ Some m → n ≤ m
   unfolding count_right
   right_most m e =
       leb-true n m (ap (not_above n) (sym e) ∙ (both_parts (leb r.least n) (not_above n r.most) (both_parts _ (not r.pairs || eqb (n % 2) 0) right).0).1)
@@ -99,18 +98,18 @@ module _ {count : ℕ} (least : 1 ≤ count) where
       }
 
 -- INCRBY, by its amount
-module _ (a : Args) {count : ℕ} (least : 3 ≤ count) {x : Bytes} (x-is : x ≡ argument 2 a) {n : Number} (n-is : n ≡ int_arg x) where
-  amount_is : {m : Number} (r : Reader) → n ≡ m → run r (command_as Incrby (arguments a)) ≡ run r (count_by (argument 1 a) m)
+module _ (a : Args) {count : ℕ} (least : 3 ≤ count) {x : Bytes} (x-is : x ≡ argument 2 a) {n : Option ℤ} (n-is : n ≡ int_arg x) where
+  amount_is : {m : Option ℤ} (r : Reader) → n ≡ m → run r (command_as Incrby (arguments a)) ≡ run r (count_by (argument 1 a) m)
   unfolding command_as
   amount_is r e =
       ap (λ (k : Bytes). run r (count_by k (int_arg (argument 1 (arguments a))))) (behind 0 a)
-      ∙ ap (λ (m : Number). run r (count_by (argument 1 a) m)) (ap int_arg (behind 1 a ∙ sym x-is) ∙ sym n-is ∙ e)
+      ∙ ap (λ (m : Option ℤ). run r (count_by (argument 1 a) m)) (ap int_arg (behind 1 a ∙ sym x-is) ∙ sym n-is ∙ e)
 
-  pub no_amount : n ≡ Bad → KindIs Incrby a count (Reads (Says NotInteger))
+  pub no_amount : n ≡ None → KindIs Incrby a count (Reads (Says NotInteger))
   unfolding run kind_effect read_reply fixed_reply KindCounted least_read
   no_amount e = record { effect = λ r. amount_is r e; counted = omega arith }
 
-  pub amount_here : {z : ℤ} → n ≡ Int z → mag z < 2 ^ 63 → KindIs Incrby a count (Counter (bits z))
+  pub amount_here : {z : ℤ} → n ≡ Some z → mag z < 2 ^ 63 → KindIs Incrby a count (Counter (bits z))
   unfolding run kind_effect counter_effect KindCounted
   amount_here {z} e small =
       let fits : SFits w64 z = record { sfits = small } in
@@ -242,9 +241,6 @@ module _ (a : Args) {count : ℕ} {row : CodeRow} (l : length a ≡ count) {w : 
     queued_plain =
         ap (λ (x : Operation). with_options x (count - 1)) o_is
         ∙ off _ (both_parts (row.queueable && count_right (row_meant row) (count - 1)) (not (with_options (operation_of row.name) (count - 1))) may_here).1
-
-    pub queued_does : {x : Kind} → KindIs o a count x → KindIs (request_operation a) a count x
-    queued_does {x} h = kind_same (request_operation a) a count (ap (λ (r : Row). operation_of r.name) (sym here) ∙ sym o_is) h
 
 -- THE ARGUMENT COUNT of each kind
 module _ {k : Kind} {count : ℕ} (h : KindCounted k count) where

@@ -1,7 +1,7 @@
 -- Laws of a request by its name, its argument count and its options: one for each way out of the code. Assumes nothing.
 use mathlib.Core.Path.{◌≡◌, refl, sym, ap, ◌∙◌, subst}
 use mathlib.Core.Bool.{Bool, true, false, cond, false≢true}
-use mathlib.Core.Option.{some}
+use Rattle.std.specs.Prelude.{Some}
 use Prim.Native.Nat.{ℕ, ◌+◌, ◌-◌, ◌≤◌}
 use native.Mathlib.Omega.{arith}
 use lib.ListN.{length}
@@ -11,7 +11,7 @@ use Rattle.command_spec.specs.declared.Name.{Name}
 use Rattle.command_spec.specs.declared.Name.TheVariants.{Queueable, Dbsize, Keys, Scan, Range, Multi, Exec, Discard, Watch, Unwatch, Quit, Unknown}
 use Rattle.command_spec.specs.declared.Fixed.TheVariants.{SetOptions}
 use Rattle.command_spec.specs.Names.{Args, Row, rows, row_of, name_word, arguments, arity, count_right, with_options, operation_of}
-use Rattle.command_spec.specs.Command.{KEYS, runs, lists, fixed, unknown_command, set_options, command_as, executed_as, executed_of}
+use Rattle.command_spec.specs.Command.{KEYS, runs, lists, fixed, set_options, command_as, executed_as, executed_of}
 use Rattle.command_spec.specs.Errors.{fixed_reply}
 use Rattle.command_spec.proofs.ErrorTexts.{arity_as_sent}
 use Rattle.command_names.specs.declared.Row.{Row as CodeRow}
@@ -38,7 +38,7 @@ module _ (name : Name) (count : ℕ) (right : count_right (row_at (row_place nam
   least_as : {x : Name} → name ≡ x → (row_at (row_place x)).least + 1 ≤ count
   least_as {x} e = omega (arith, right_least (row_at (row_place x)) (count - 1) (right_as e))
 
-  most_as : {x : Name} (m : ℕ) → name ≡ x → (row_at (row_place x)).most ≡ some m → count ≤ m + 1
+  most_as : {x : Name} (m : ℕ) → name ≡ x → (row_at (row_place x)).most ≡ Some m → count ≤ m + 1
   most_as {x} m e l = omega (arith, right_most (row_at (row_place x)) (count - 1) (right_as e) m l)
 
   pub scan_count : name ≡ Scan → 2 ≤ count
@@ -61,9 +61,21 @@ module _ (name : Name) (count : ℕ) (right : count_right (row_at (row_place nam
         let m : count ≤ 2 = most_as 1 e refl in
         means_same name a count e (record { is = ap (λ (k : Bytes). lists (KEYS k)) (behind 0 a); counted = omega arith })
 
-    pub other_means : {x : Name} → name ≡ x → ((word : Bytes) (b : Args) → executed_as x word b ≡ fixed (unknown_command word)) → MeansAs name a count (Refused refusal.Unknown)
-    unfolding executed_meant refusal_reply Counted
-    other_means e h = means_same name a count e (record { is = h (name_word a) (arguments a); counted = tt })
+pub other_means : (name : Name) (a : Args) (count : ℕ) → ((o : Operation) → name ≡ Queueable o → ⊥) → (name ≡ Dbsize → ⊥) → (name ≡ Keys → ⊥) → (name ≡ Scan → ⊥) → (name ≡ Range → ⊥)
+    → MeansAs name a count (Refused refusal.Unknown)
+unfolding executed_as executed_meant refusal_reply Counted
+other_means (Queueable o) a count q d k s r = absurd (q o refl)
+other_means Dbsize a count q d k s r = absurd (d refl)
+other_means Keys a count q d k s r = absurd (k refl)
+other_means Scan a count q d k s r = absurd (s refl)
+other_means Range a count q d k s r = absurd (r refl)
+other_means Multi a count q d k s r = record { is = refl; counted = tt }
+other_means Exec a count q d k s r = record { is = refl; counted = tt }
+other_means Discard a count q d k s r = record { is = refl; counted = tt }
+other_means Watch a count q d k s r = record { is = refl; counted = tt }
+other_means Unwatch a count q d k s r = record { is = refl; counted = tt }
+other_means Quit a count q d k s r = record { is = refl; counted = tt }
+other_means Unknown a count q d k s r = record { is = refl; counted = tt }
 
 -- one of the eleven
 module _ (name : Name) (count : ℕ) {o : Operation} (e : name ≡ Queueable o) (plain : with_options (operation_of name) (count - 1) ≡ false) where

@@ -2,14 +2,13 @@
 use mathlib.Core.Path.{◌≡◌, refl, sym, ap, ◌∙◌}
 use mathlib.Core.Bool.{Bool, true, false, cond}
 use mathlib.Core.List.{[], ◌∷◌}
-use mathlib.Core.Option.{Option, none, some}
+use Rattle.std.specs.Prelude.{Option, None, Some}
 use Prim.Native.Nat.{ℕ, suc, ◌+◌, ◌-◌, ◌<◌, ◌≤◌}
 use native.Mathlib.Numerals.{add-one}
 use native.Mathlib.Omega.{arith}
 use lib.ListN.{length, drop, drop_of_length-le}
 use lib.Seq.{drop-cons}
 use Rattle.base_key.specs.Bytes.{Bytes, bytes}
-use Rattle.base_number.specs.declared.Number.{Number}
 use Rattle.base_number.specs.Number.{int_arg}
 use Rattle.command_spec.specs.declared.Name.TheVariants.{Scan, Range}
 use Rattle.command_spec.specs.declared.Fixed.{Fixed}
@@ -21,12 +20,11 @@ use Rattle.command_meaning.specs.declared.Refusal.TheVariants.{Says}
 use Rattle.command_meaning.specs.declared.Listing.TheVariants as listing
 use Rattle.command_meaning.specs.declared.Executed.{Executed as CodeExecuted}
 use Rattle.command_meaning.specs.declared.Executed.TheVariants.{Lists, Refused}
-use Rattle.command_meaning.specs.declared.amounts.Amount.{Amount}
-use Rattle.command_meaning.specs.declared.amounts.Amount.TheVariants.{Is, Missing}
 use Rattle.command_meaning.specs.declared.options.ScanOption.{ScanOption}
 use Rattle.command_meaning.specs.declared.options.ScanOption.TheVariants.{Match, Count, Wrong}
 use Rattle.command_meaning.specs.Meant.{pattern_at, listing_meant, refusal_reply, executed_meant, ListingCounted, Counted}
-use Rattle.command_meaning.specs.Reading.{MeansAs, amount_in, scan_step, OptionIs, ScanIs}
+use Rattle.command_meaning.specs.Reading.{MeansAs, scan_step, OptionIs, ScanIs}
+use Rattle.std.specs.Prelude.{ℤ}
 
 -- AN OPTION OF SCAN. Two arguments from place i on.
 pair_at : (a : Args) (i : ℕ) → i + 1 < length a → drop i a ≡ argument i a ∷ argument (i + 1) a ∷ drop (i + 2) a
@@ -40,7 +38,7 @@ pair_at a i h =
 module _ (from : ℕ) (pattern : Bytes) (most : ℕ) (o v : Bytes) (a : Args) where
   count_or : Bool → Executed
   count_or b = elim b [
-    | true ↦ elim (positive (int_arg v)) [ none ↦ fixed not_integer | some n ↦ scan_options from pattern n a ]
+    | true ↦ elim (positive (int_arg v)) [ None ↦ fixed not_integer | Some n ↦ scan_options from pattern n a ]
     | false ↦ fixed syntax_error
   ]
 
@@ -58,7 +56,7 @@ module _ (from : ℕ) (pattern : Bytes) (most : ℕ) (o v : Bytes) (a : Args) wh
     neither_step f = second_word ∙ ap count_or f
 
     count_step : same_name o (bytes "COUNT") ≡ true
-        → scan_options from pattern most (o ∷ v ∷ a) ≡ elim (positive (int_arg v)) [ none ↦ fixed not_integer | some n ↦ scan_options from pattern n a ]
+        → scan_options from pattern most (o ∷ v ∷ a) ≡ elim (positive (int_arg v)) [ None ↦ fixed not_integer | Some n ↦ scan_options from pattern n a ]
     unfolding count_or
     count_step f = second_word ∙ ap count_or f
 
@@ -81,21 +79,21 @@ module _ (a : Args) (i : ℕ) {count : ℕ} (l : length a ≡ count) (h : i + 1 
           ap (scan_options from pattern most) at_pair ∙ neither_step from pattern most x (argument (i + 1) a) (drop (i + 2) a) (sym m-is ∙ no) (sym k-is ∙ e);
     }
 
-    module _ (yes : k ≡ true) {v : Bytes} (v-is : v ≡ argument (i + 1) a) {n : Number} (n-is : n ≡ int_arg v) (o : Amount) (o_is : amount_in o ≡ positive n) where
-      counted_as : (from : ℕ) (pattern : Bytes) (most : ℕ) (w : Option ℕ) → w ≡ amount_in o
-          → scan_options from pattern most (drop i a) ≡ elim w [ none ↦ fixed not_integer | some n ↦ scan_options from pattern n (drop (i + 2) a) ]
+    module _ (yes : k ≡ true) {v : Bytes} (v-is : v ≡ argument (i + 1) a) {n : Option ℤ} (n-is : n ≡ int_arg v) (o : Option ℕ) (o_is : o ≡ positive n) where
+      counted_as : (from : ℕ) (pattern : Bytes) (most : ℕ) (w : Option ℕ) → w ≡ o
+          → scan_options from pattern most (drop i a) ≡ elim w [ None ↦ fixed not_integer | Some n ↦ scan_options from pattern n (drop (i + 2) a) ]
       counted_as from pattern most w e =
           ap (scan_options from pattern most) at_pair ∙ count_step from pattern most x (argument (i + 1) a) (drop (i + 2) a) (sym m-is ∙ no) (sym k-is ∙ yes)
-          ∙ ap (λ (u : Option ℕ). elim u [ none ↦ fixed not_integer | some n ↦ scan_options from pattern n (drop (i + 2) a) ])
+          ∙ ap (λ (u : Option ℕ). elim u [ None ↦ fixed not_integer | Some n ↦ scan_options from pattern n (drop (i + 2) a) ])
           (ap (λ (y : Bytes). positive (int_arg y)) (sym v-is) ∙ ap positive (sym n-is) ∙ sym o_is ∙ sym e)
 
-      pub no_count : o ≡ Missing → OptionIs a i (Wrong NotInteger)
-      unfolding amount_in scan_step fixed_reply
-      no_count e = record { is = λ from pattern most. counted_as from pattern most none (ap amount_in (sym e)) }
+      pub no_count : o ≡ None → OptionIs a i (Wrong NotInteger)
+      unfolding scan_step fixed_reply
+      no_count e = record { is = λ from pattern most. counted_as from pattern most None (sym e) }
 
-      pub count_here : {z : ℕ} → o ≡ Is z → OptionIs a i (Count z)
-      unfolding amount_in scan_step
-      count_here {z} e = record { is = λ from pattern most. counted_as from pattern most (some z) (ap amount_in (sym e)) }
+      pub count_here : {z : ℕ} → o ≡ Some z → OptionIs a i (Count z)
+      unfolding scan_step
+      count_here {z} e = record { is = λ from pattern most. counted_as from pattern most (Some z) (sym e) }
 
 -- THE OPTIONS OF SCAN: those before argument i are read.
 pub record Scanning (a : Args) (count from i pattern most : ℕ) : Type 0 where
@@ -112,21 +110,23 @@ unfolding pattern_at
 pattern_behind i a = ap (λ (n : ℕ). argument n a) (add-one i) ∙ ap (λ (n : ℕ). pattern_at n a) (sym (add-one i))
 
 module _ {a : Args} {count from i pattern most : ℕ} (s : Scanning a count from i pattern most) where
-  module _ {r : ScanOption} (o : OptionIs a i r) (h : 1 < count - i) where
+  module _ {r : ScanOption} (o : OptionIs a i r) (h : i + 1 < count) where
     stepped : {r' : ScanOption} → r ≡ r' → scan_options from (bytes "*") 10 (drop 2 a) ≡ scan_step r' from (pattern_at pattern a) most (argument (i + 1) a) (drop (i + 2) a)
     stepped e = s.is ∙ o.is from (pattern_at pattern a) most ∙ ap (λ (r : ScanOption). scan_step r from (pattern_at pattern a) most (argument (i + 1) a) (drop (i + 2) a)) e
 
-    pub scanning_match : r ≡ Match → Scanning a count from (i + 2) (i + 1) most
+    pub scanning_match : {j : ℕ} → j ≡ i + 2 → r ≡ Match → Scanning a count from j (i + 1) most
     unfolding scan_step
-    scanning_match e = record {
-      within = omega (arith, s.within);
-      inside = omega (arith, s.within);
-      is = stepped e ∙ ap (λ (v : Bytes). scan_options from v most (drop (i + 2) a)) (pattern_behind i a);
-    }
+    scanning_match j-is e =
+        rw j-is
+        (record {
+          within = omega (arith, s.within);
+          inside = omega (arith, s.within);
+          is = stepped e ∙ ap (λ (v : Bytes). scan_options from v most (drop (i + 2) a)) (pattern_behind i a);
+        })
 
-    pub scanning_count : {n : ℕ} → r ≡ Count n → Scanning a count from (i + 2) pattern n
+    pub scanning_count : {j n : ℕ} → j ≡ i + 2 → r ≡ Count n → Scanning a count from j pattern n
     unfolding scan_step
-    scanning_count e = record { within = omega (arith, s.within); inside = s.inside; is = stepped e }
+    scanning_count j-is e = rw j-is (record { within = omega (arith, s.within); inside = s.inside; is = stepped e })
 
     pub scanning_wrong : {f : Fixed} → r ≡ Wrong f → ScanIs a count from (Refused (Says f))
     unfolding scan_step executed_meant refusal_reply Counted
@@ -155,19 +155,18 @@ unfolding executed_as
 scan_as [] = refl
 scan_as (n ∷ a) = refl
 
-module _ (a : Args) {count : ℕ} (least : 2 ≤ count) {x : Bytes} (x-is : x ≡ argument 1 a) {n : Number} (n-is : n ≡ int_arg x) (o : Amount) (o_is : amount_in o ≡ natural n) where
-  cursor_is : {w : Option ℕ} → w ≡ amount_in o → executed_as Scan (name_word a) (arguments a) ≡ scan_from w (drop 2 a)
+module _ (a : Args) {count : ℕ} (least : 2 ≤ count) {x : Bytes} (x-is : x ≡ argument 1 a) {n : Option ℤ} (n-is : n ≡ int_arg x) (o : Option ℕ) (o_is : o ≡ natural n) where
+  cursor_is : {w : Option ℕ} → w ≡ o → executed_as Scan (name_word a) (arguments a) ≡ scan_from w (drop 2 a)
   cursor_is e =
       scan_as a ∙ ap (λ (u : Option ℕ). scan_from u (drop 2 a))
       (ap (λ (y : Bytes). natural (int_arg y)) (sym x-is) ∙ ap natural (sym n-is) ∙ sym o_is ∙ sym e)
 
-  pub no_cursor : o ≡ Missing → MeansAs Scan a count (Refused (Says InvalidCursor))
-  unfolding amount_in fixed_reply executed_meant refusal_reply Counted
-  no_cursor e = record { is = cursor_is {w = none} (ap amount_in (sym e)); counted = tt }
+  pub no_cursor : o ≡ None → MeansAs Scan a count (Refused (Says InvalidCursor))
+  unfolding fixed_reply executed_meant refusal_reply Counted
+  no_cursor e = record { is = cursor_is {w = None} (sym e); counted = tt }
 
-  pub cursor_here : {from : ℕ} → o ≡ Is from → {r : CodeExecuted} → ScanIs a count from r → MeansAs Scan a count r
-  unfolding amount_in
-  cursor_here {from} e s = record { is = cursor_is {w = some from} (ap amount_in (sym e)) ∙ s.is; counted = s.counted }
+  pub cursor_here : {from : ℕ} → o ≡ Some from → {r : CodeExecuted} → ScanIs a count from r → MeansAs Scan a count r
+  cursor_here {from} e s = record { is = cursor_is {w = Some from} (sym e) ∙ s.is; counted = s.counted }
 
 -- RANGE, by its argument count.
 range_alone : (a : Args) → length a ≡ 3 → executed_as Range (name_word a) (arguments a) ≡ executed_meant Range (Lists listing.Range) a
@@ -221,16 +220,16 @@ module _ (a : Args) {count : ℕ} (l : length a ≡ count) where
     unfolding executed_meant refusal_reply fixed_reply Counted
     other_option e = record { is = five_as e; counted = tt }
 
-    module _ (yes : b ≡ true) {v : Bytes} (v-is : v ≡ argument 4 a) {n : Number} (n-is : n ≡ int_arg v) (o : Amount) (o_is : amount_in o ≡ natural n) where
-      limit_as : {w : Option ℕ} → w ≡ amount_in o → executed_as Range (name_word a) (arguments a) ≡ range_limit (argument 1 a) (argument 2 a) w
+    module _ (yes : b ≡ true) {v : Bytes} (v-is : v ≡ argument 4 a) {n : Option ℤ} (n-is : n ≡ int_arg v) (o : Option ℕ) (o_is : o ≡ natural n) where
+      limit_as : {w : Option ℕ} → w ≡ o → executed_as Range (name_word a) (arguments a) ≡ range_limit (argument 1 a) (argument 2 a) w
       limit_as e =
           five_as yes ∙ ap (range_limit (argument 1 a) (argument 2 a))
           (ap (λ (y : Bytes). natural (int_arg y)) (sym v-is) ∙ ap natural (sym n-is) ∙ sym o_is ∙ sym e)
 
-      pub bad_limit : o ≡ Missing → MeansAs Range a count (Refused (Says BadLimit))
-      unfolding amount_in executed_meant refusal_reply fixed_reply Counted
-      bad_limit e = record { is = limit_as {w = none} (ap amount_in (sym e)); counted = tt }
+      pub bad_limit : o ≡ None → MeansAs Range a count (Refused (Says BadLimit))
+      unfolding executed_meant refusal_reply fixed_reply Counted
+      bad_limit e = record { is = limit_as {w = None} (sym e); counted = tt }
 
-      pub limit_here : {most : ℕ} → o ≡ Is most → MeansAs Range a count (Lists (listing.RangeUpTo most))
-      unfolding amount_in executed_meant listing_meant Counted ListingCounted
-      limit_here {most} e = record { is = limit_as {w = some most} (ap amount_in (sym e)); counted = omega arith }
+      pub limit_here : {most : ℕ} → o ≡ Some most → MeansAs Range a count (Lists (listing.RangeUpTo most))
+      unfolding executed_meant listing_meant Counted ListingCounted
+      limit_here {most} e = record { is = limit_as {w = Some most} (sym e); counted = omega arith }

@@ -2,3 +2,4 @@
 pub mod Kinds
 pub mod Meant
 pub mod Reading
+pub mod Requests

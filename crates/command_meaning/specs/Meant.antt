@@ -1,6 +1,6 @@
 -- What the code's answers mean: the commands of `Command.antt` of the crate `command_spec`, over the whole list of arguments with the name in front.
 use Rattle.std.specs.Prelude.{ℕ, zero, suc, ◌<◌, ◌≤◌, ◌≡◌}
-use Rattle.std.proofs.Math.Option.{none, some}
+use Rattle.std.specs.Prelude.{None, Some}
 use Rattle.base_key.specs.Bytes.{Bytes, bytes}
 use Rattle.resp_spec.specs.Reply.{Reply}
 use Rattle.command_spec.specs.declared.Name.{Name}
@@ -25,8 +25,8 @@ unfoldable pub listing_meant : CodeListing → Args → Listing
 listing_meant listing.Dbsize a = DBSIZE
 listing_meant listing.Keys a = KEYS (argument 1 a)
 listing_meant (listing.Scan from pattern most) a = SCAN from (pattern_at pattern a) most
-listing_meant listing.Range a = RANGE (argument 1 a) (argument 2 a) none
-listing_meant (listing.RangeUpTo n) a = RANGE (argument 1 a) (argument 2 a) (some n)
+listing_meant listing.Range a = RANGE (argument 1 a) (argument 2 a) None
+listing_meant (listing.RangeUpTo n) a = RANGE (argument 1 a) (argument 2 a) (Some n)
 
 -- the error of a request that is not carried out
 unfoldable pub refusal_reply : Refusal → Args → Reply

@@ -1,6 +1,6 @@
 -- The steps in which the code reads a request.
 use Rattle.std.specs.Prelude.{ℕ, ◌+◌, ◌≡◌, length, drop}
-use Rattle.std.proofs.Math.Option.{Option, none, some}
+use Rattle.std.specs.Prelude.{Option, None, Some}
 use Rattle.base_key.specs.Bytes.{Bytes, bytes}
 use Rattle.command_spec.specs.declared.Operation.{Operation}
 use Rattle.command_spec.specs.declared.Operation.TheVariants.{Get, Set, Del, Exists, Mget, Mset, Incr, Incrby, Decr, Ping, Echo}
@@ -10,8 +10,6 @@ use Rattle.command_spec.specs.Names.{Args, name_word, arguments}
 use Rattle.command_spec.specs.Command.{Executed, argument, fixed, scan_options, executed_as}
 use Rattle.command_spec.specs.Errors.{fixed_reply}
 use Rattle.command_meaning.specs.declared.Executed.{Executed as CodeExecuted}
-use Rattle.command_meaning.specs.declared.amounts.Amount.{Amount}
-use Rattle.command_meaning.specs.declared.amounts.Amount.TheVariants.{Is, Missing}
 use Rattle.command_meaning.specs.declared.options.ScanOption.{ScanOption}
 use Rattle.command_meaning.specs.declared.options.ScanOption.TheVariants.{Match, Count, Wrong}
 use Rattle.command_meaning.specs.declared.Kind.{Kind}
@@ -51,11 +49,6 @@ pub record MeansAs (name : Name) (a : Args) (count : ℕ) (r : CodeExecuted) : T
 -- what an operation does with every list of so many arguments
 pub record KindFor (o : Operation) (count : ℕ) (k : Kind) : Type 0 where
   pub does : (a : Args) → length a ≡ count → KindIs o a count k
-
--- a number that the code read
-unfoldable pub amount_in : Amount → Option ℕ
-amount_in (Is n) = some n
-amount_in Missing = none
 
 -- SCAN's options behind one that was read, with this value
 unfoldable pub scan_step : ScanOption → ℕ → Bytes → ℕ → Bytes → Args → Executed

@@ -1,15 +1,27 @@
-// Arguments as parts of lent bytes.
+// A request: its arguments as parts of lent bytes, its name first.
 ghost use Rattle.std.specs.Prelude.{◌≡◌, ◌<◌};
 ghost use Rattle.command_spec.specs.Command.{argument};
-ghost use Rattle.command_spec.specs.Places.{arguments_at, PartsIn};
+ghost use Rattle.command_spec.specs.Places.{PartsIn};
 
 use group_spec::parts;
 
-// Argument k.
-pub fn argument<'a, 'b>(input: &'b [u8], places: &'a [u64], count: usize, k: usize) -> &'b [u8]
-    requires parts_in { PartsIn places.now input.now count }
-    requires k_lt_count { k < count }
-    ensures { result.now ≡ argument k (arguments_at 0 count places.now input.now) }
-{
-    parts::key_part(places, input, 2 * k)
+// The first `count` parts of `input` that `places` names.
+#[derive(Clone, Copy)]
+pub struct Request<'a> {
+    pub input: &'a [u8],
+    pub places: &'a [u64],
+    pub count: usize,
+    pub ghost parts_in: { PartsIn places.now input.now count },
+}
+
+impl<'a> Request<'a> {
+    ghost use Rattle.command_meaning.specs.Requests.{arguments_of};
+
+    // Argument k.
+    pub fn argument(&self, k: usize) -> &'a [u8]
+        requires { k < self.now.count }
+        ensures { result.now ≡ argument k (arguments_of self.now) }
+    {
+        parts::key_part(self.places, self.input, 2 * k)
+    }
 }

@@ -5,13 +5,13 @@ ghost use Rattle.command_spec.specs.declared.Name.TheVariants.{Queueable};
 ghost use Rattle.command_spec.specs.Names.{count_right, with_options, request_queueable};
 ghost use Rattle.command_spec.specs.Command.{request_operation};
 ghost use Rattle.command_names.specs.Rows.{row_at};
-ghost use Rattle.command_spec.specs.Places.{arguments_at, PartsIn};
+ghost use Rattle.command_meaning.specs.Requests.{arguments_of};
 ghost use Rattle.command_meaning.specs.Kinds.{KindIs};
 ghost use Rattle.command_meaning.specs.Reading.{row_place, KindFor};
 
-use crate::arguments::argument;
+use crate::arguments::Request;
 use crate::{Kind, Read};
-use base_number::{Number, integer};
+use base_number::integer;
 use command_spec::{Fixed, Operation};
 
 // PING, alone or with an argument.
@@ -20,30 +20,29 @@ fn ping(count: usize) -> Kind
     ensures { KindFor Ping count result }
 {
     if count == 1 {
-        return Kind::Reads(Read::Says(Fixed::Pong));
+        Kind::Reads(Read::Says(Fixed::Pong))
+    } else {
+        Kind::Reads(Read::Echo)
     }
-    Kind::Reads(Read::Echo)
 }
 
 // INCRBY: its amount is argument 2.
-fn incrby(input: &[u8], places: &[u64], count: usize) -> Kind
-    requires parts_in { PartsIn places.now input.now count }
-    requires le_count { 3 ≤ count }
-    ensures { KindIs Incrby (arguments_at 0 count places.now input.now) count result }
+fn incrby(request: &Request) -> Kind
+    requires le_count { 3 ≤ request.now.count }
+    ensures { KindIs Incrby (arguments_of request.now) request.now.count result }
 {
-    let Number::Int(by) = integer::int_arg(argument(input, places, count, 2)) else {
+    let Some(by) = integer::int_arg(request.argument(2)) else {
         return Kind::Reads(Read::Says(Fixed::NotInteger));
     };
     Kind::Counter(by)
 }
 
 // What an operation does, for a right argument count and no options.
-pub fn kind_of(operation: Operation, input: &[u8], places: &[u64], count: usize) -> Kind
-    requires parts_in { PartsIn places.now input.now count }
-    requires le_count { 1 ≤ count }
-    requires count_value { count_right (row_at (row_place (Queueable operation))) (count - 1) ≡ true }
-    requires count_value_2 { with_options operation (count - 1) ≡ false }
-    ensures { KindIs operation (arguments_at 0 count places.now input.now) count result }
+pub fn kind_of(operation: Operation, request: &Request) -> Kind
+    requires le_count { 1 ≤ request.now.count }
+    requires count_value { count_right (row_at (row_place (Queueable operation))) (request.now.count - 1) ≡ true }
+    requires count_value_2 { with_options operation (request.now.count - 1) ≡ false }
+    ensures { KindIs operation (arguments_of request.now) request.now.count result }
 {
     match operation {
         Operation::Get => Kind::Reads(Read::Value),
@@ -53,21 +52,19 @@ pub fn kind_of(operation: Operation, input: &[u8], places: &[u64], count: usize)
         Operation::Mget => Kind::Reads(Read::Values),
         Operation::Mset => Kind::Pairs,
         Operation::Incr => Kind::Counter(1),
-        Operation::Incrby => incrby(input, places, count),
+        Operation::Incrby => incrby(request),
         Operation::Decr => Kind::Counter(-1),
-        Operation::Ping => ping(count),
+        Operation::Ping => ping(request.count),
         Operation::Echo => Kind::Reads(Read::Echo),
     }
 }
 
 // What a queued command does.
-pub fn kind_at(data: &[u8], places: &[u64], count: usize) -> Kind
-    requires parts_in { PartsIn places.now «data».now count }
-    requires le_count { 1 ≤ count }
-    requires data_value { request_queueable (arguments_at 0 count places.now «data».now) ≡ true }
-    ensures { KindIs (request_operation (arguments_at 0 count places.now «data».now)) (arguments_at 0 count places.now «data».now) count result }
+pub fn kind_at(request: &Request) -> Kind
+    requires le_count { 1 ≤ request.now.count }
+    requires data_value { request_queueable (arguments_of request.now) ≡ true }
+    ensures { KindIs (request_operation (arguments_of request.now)) (arguments_of request.now) request.now.count result }
 {
-    let row = command_names::look_up(argument(data, places, count, 0));
-    let name = row.name;
-    kind_of(command_names::operation_of(name), data, places, count)
+    let row = command_names::look_up(request.argument(0));
+    kind_of(command_names::operation_of(row.name), request)
 }

@@ -9,10 +9,11 @@ pub mod options;
 ghost use Rattle.std.specs.Prelude.{◌≡◌, true, false, ◌-◌, ◌≤◌};
 ghost use Rattle.command_spec.specs.Names.{name_word, count_right, with_options, operation_of};
 ghost use Rattle.command_names.specs.Rows.{row_at, Looked};
-ghost use Rattle.command_spec.specs.Places.{arguments_at, PartsIn};
+ghost use Rattle.command_meaning.specs.Requests.{arguments_of};
 ghost use Rattle.command_meaning.specs.Meant.{ExecutedIs};
 ghost use Rattle.command_meaning.specs.Reading.{row_place, MeansAs};
 
+use arguments::Request;
 use command_names::Row;
 use command_spec::{Fixed, Name};
 
@@ -66,44 +67,33 @@ pub enum Executed {
 }
 
 // The command of a name, for a right argument count and no options.
-fn named(name: Name, input: &[u8], places: &[u64], count: usize) -> Executed
-    requires parts_in { PartsIn places.now input.now count }
-    requires le_count { 1 ≤ count }
-    requires count_value { count_right (row_at (row_place name)) (count - 1) ≡ true }
-    requires count_value_2 { with_options (operation_of name) (count - 1) ≡ false }
-    ensures { MeansAs name (arguments_at 0 count places.now input.now) count result }
+fn named(name: Name, request: &Request) -> Executed
+    requires le_count { 1 ≤ request.now.count }
+    requires count_value { count_right (row_at (row_place name)) (request.now.count - 1) ≡ true }
+    requires count_value_2 { with_options (operation_of name) (request.now.count - 1) ≡ false }
+    ensures { MeansAs name (arguments_of request.now) request.now.count result }
 {
     match name {
-        Name::Queueable(operation) => {
-            Executed::Runs(kinds::kind_of(operation, input, places, count))
-        }
+        Name::Queueable(operation) => Executed::Runs(kinds::kind_of(operation, request)),
         Name::Dbsize => Executed::Lists(Listing::Dbsize),
         Name::Keys => Executed::Lists(Listing::Keys),
-        Name::Scan => options::scan(input, places, count),
-        Name::Range => options::range(input, places, count),
-        Name::Multi => Executed::Refused(Refusal::Unknown),
-        Name::Exec => Executed::Refused(Refusal::Unknown),
-        Name::Discard => Executed::Refused(Refusal::Unknown),
-        Name::Watch => Executed::Refused(Refusal::Unknown),
-        Name::Unwatch => Executed::Refused(Refusal::Unknown),
-        Name::Quit => Executed::Refused(Refusal::Unknown),
-        Name::Unknown => Executed::Refused(Refusal::Unknown),
+        Name::Scan => options::scan(request),
+        Name::Range => options::range(request),
+        _ => Executed::Refused(Refusal::Unknown),
     }
 }
 
 // What a request means, by the row of its name.
-pub fn executed_of(row: Row, input: &[u8], places: &[u64], count: usize) -> Executed
-    requires parts_in { PartsIn places.now input.now count }
-    requires le_count { 1 ≤ count }
-    requires looked { Looked (name_word (arguments_at 0 count places.now input.now)) row }
-    ensures { ExecutedIs (arguments_at 0 count places.now input.now) count result }
+pub fn executed_of(row: Row, request: &Request) -> Executed
+    requires le_count { 1 ≤ request.now.count }
+    requires looked { Looked (name_word (arguments_of request.now)) row }
+    ensures { ExecutedIs (arguments_of request.now) request.now.count result }
 {
-    if command_names::count_right(row, count - 1) {
-        if command_names::with_options(row, count - 1) {
-            return Executed::Refused(Refusal::Says(Fixed::SetOptions));
-        }
-        let name = row.name;
-        return named(name, input, places, count);
+    if !command_names::count_right(row, request.count - 1) {
+        return Executed::Refused(Refusal::Arity);
     }
-    Executed::Refused(Refusal::Arity)
+    if command_names::with_options(row, request.count - 1) {
+        return Executed::Refused(Refusal::Says(Fixed::SetOptions));
+    }
+    named(row.name, request)
 }

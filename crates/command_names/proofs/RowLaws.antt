@@ -33,12 +33,13 @@ all_true zero i = refl
 all_true (suc n) zero = refl
 all_true (suc n) (suc i) = all_true n i
 
+pub table_long : {table : List CodeRow} → TableRight table → length table ≡ 22
+unfolding rows
+table_long {table} t = sym (length-map table row_meant) ∙ ap length t.meant
+
 module _ {table : List CodeRow} (t : TableRight table) (d : CodeRow) {k : ℕ} (h : k < 22) where
   inside : k < length table
-  unfolding rows
-  inside =
-      let l : length table ≡ 22 = sym (length-map table row_meant) ∙ ap length t.meant in
-      omega (arith, l)
+  inside = omega (arith, table_long t)
 
   pub row_is : row_meant (get_or table k d) ≡ row_at k
   unfolding row_at

@@ -1,9 +1,7 @@
 -- What the code's rows mean (`specs/Names.antt` of `command_spec`).
 use Rattle.std.specs.Prelude.{ℕ, ◌≡◌, true, List, [], ◌∷◌, ◌++◌, map, leb, length, get_or, take, replicate}
-use Rattle.std.proofs.Math.Option.{Option, none, some}
+use Rattle.std.specs.Prelude.{Option, None, Some}
 use Rattle.base_key.specs.Bytes.{Bytes}
-use Rattle.command_names.specs.declared.Most.{Most}
-use Rattle.command_names.specs.declared.Most.TheVariants.{Any, Count}
 use Rattle.command_names.specs.declared.Row.{Row as CodeRow}
 use Rattle.command_names.specs.declared.Control.{Control as Said}
 use Rattle.command_names.specs.declared.Control.TheVariants as said
@@ -13,14 +11,9 @@ use Rattle.command_spec.specs.Names.{Row, row, rows, row_of, unknown_row, Contro
 unfoldable pub row_at : ℕ → Row
 row_at k = get_or rows k unknown_row
 
--- the most arguments
-abbrev pub most_meant : Most → Option ℕ
-most_meant Any = none
-most_meant (Count n) = some n
-
 -- a row
 abbrev pub row_meant : CodeRow → Row
-row_meant r = row (take r.length r.text) r.name r.least (most_meant r.most) r.pairs r.queueable
+row_meant r = row (take r.length r.text) r.name r.least r.most r.pairs r.queueable
 
 -- THE RULE of the code's table: its rows are those of `command_spec` and the one of an unknown name, and each name is within its text
 pub record TableRight (table : List CodeRow) : Type 0 where

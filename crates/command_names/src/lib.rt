@@ -1,18 +1,13 @@
 // The table of commands (`specs/Names.antt` of `command_spec`), and what a row says of a command.
 #![tactic(auto)]
 
-ghost use Rattle.std.specs.Prelude.{◌≡◌, ◌≤◌, length, take};
+ghost use Rattle.std.specs.Prelude.{◌≡◌, ◌≤◌, eqb, length, take};
+ghost use Rattle.std.specs.List.{list_all, zip};
+ghost use Rattle.resp_spec.specs.Letters.{upper};
 ghost use Rattle.command_spec.specs.Names.{same_name, count_right, with_options, operation_of, may_queue, not_above, control_of};
-ghost use Rattle.command_names.specs.Rows.{most_meant, row_meant, TableRight, Looked, control_said};
+ghost use Rattle.command_names.specs.Rows.{row_meant, TableRight, Looked, control_said};
 
 use command_spec::{Name, Operation};
-
-// The most arguments behind a name.
-#[derive(Clone, Copy)]
-pub enum Most {
-    Any,
-    Count(usize),
-}
 
 // A command. The counts are those of the arguments behind its name.
 #[derive(Clone, Copy)]
@@ -22,7 +17,7 @@ pub struct Row {
     pub length: usize,
     pub name: Name,
     pub least: usize,
-    pub most: Most,
+    pub most: Option<usize>,
     // Only even counts are right.
     pub pairs: bool,
     pub queueable: bool,
@@ -37,7 +32,7 @@ const ROWS: [Row; 22] = [
         length: 3,
         name: Name::Queueable(Operation::Get),
         least: 1,
-        most: Most::Count(1),
+        most: Some(1),
         pairs: false,
         queueable: true,
     },
@@ -46,7 +41,7 @@ const ROWS: [Row; 22] = [
         length: 3,
         name: Name::Queueable(Operation::Set),
         least: 2,
-        most: Most::Any,
+        most: None,
         pairs: false,
         queueable: true,
     },
@@ -55,7 +50,7 @@ const ROWS: [Row; 22] = [
         length: 3,
         name: Name::Queueable(Operation::Del),
         least: 1,
-        most: Most::Any,
+        most: None,
         pairs: false,
         queueable: true,
     },
@@ -64,7 +59,7 @@ const ROWS: [Row; 22] = [
         length: 6,
         name: Name::Queueable(Operation::Exists),
         least: 1,
-        most: Most::Any,
+        most: None,
         pairs: false,
         queueable: true,
     },
@@ -73,7 +68,7 @@ const ROWS: [Row; 22] = [
         length: 4,
         name: Name::Queueable(Operation::Mget),
         least: 1,
-        most: Most::Any,
+        most: None,
         pairs: false,
         queueable: true,
     },
@@ -82,7 +77,7 @@ const ROWS: [Row; 22] = [
         length: 4,
         name: Name::Queueable(Operation::Mset),
         least: 2,
-        most: Most::Any,
+        most: None,
         pairs: true,
         queueable: true,
     },
@@ -91,7 +86,7 @@ const ROWS: [Row; 22] = [
         length: 4,
         name: Name::Queueable(Operation::Incr),
         least: 1,
-        most: Most::Count(1),
+        most: Some(1),
         pairs: false,
         queueable: true,
     },
@@ -100,7 +95,7 @@ const ROWS: [Row; 22] = [
         length: 6,
         name: Name::Queueable(Operation::Incrby),
         least: 2,
-        most: Most::Count(2),
+        most: Some(2),
         pairs: false,
         queueable: true,
     },
@@ -109,7 +104,7 @@ const ROWS: [Row; 22] = [
         length: 4,
         name: Name::Queueable(Operation::Decr),
         least: 1,
-        most: Most::Count(1),
+        most: Some(1),
         pairs: false,
         queueable: true,
     },
@@ -118,7 +113,7 @@ const ROWS: [Row; 22] = [
         length: 4,
         name: Name::Queueable(Operation::Ping),
         least: 0,
-        most: Most::Count(1),
+        most: Some(1),
         pairs: false,
         queueable: true,
     },
@@ -127,7 +122,7 @@ const ROWS: [Row; 22] = [
         length: 4,
         name: Name::Queueable(Operation::Echo),
         least: 1,
-        most: Most::Count(1),
+        most: Some(1),
         pairs: false,
         queueable: true,
     },
@@ -136,7 +131,7 @@ const ROWS: [Row; 22] = [
         length: 6,
         name: Name::Dbsize,
         least: 0,
-        most: Most::Count(0),
+        most: Some(0),
         pairs: false,
         queueable: false,
     },
@@ -145,7 +140,7 @@ const ROWS: [Row; 22] = [
         length: 4,
         name: Name::Keys,
         least: 1,
-        most: Most::Count(1),
+        most: Some(1),
         pairs: false,
         queueable: false,
     },
@@ -154,7 +149,7 @@ const ROWS: [Row; 22] = [
         length: 4,
         name: Name::Scan,
         least: 1,
-        most: Most::Any,
+        most: None,
         pairs: false,
         queueable: false,
     },
@@ -163,7 +158,7 @@ const ROWS: [Row; 22] = [
         length: 5,
         name: Name::Range,
         least: 2,
-        most: Most::Any,
+        most: None,
         pairs: false,
         queueable: false,
     },
@@ -172,7 +167,7 @@ const ROWS: [Row; 22] = [
         length: 5,
         name: Name::Multi,
         least: 0,
-        most: Most::Any,
+        most: None,
         pairs: false,
         queueable: false,
     },
@@ -181,7 +176,7 @@ const ROWS: [Row; 22] = [
         length: 4,
         name: Name::Exec,
         least: 0,
-        most: Most::Any,
+        most: None,
         pairs: false,
         queueable: false,
     },
@@ -190,7 +185,7 @@ const ROWS: [Row; 22] = [
         length: 7,
         name: Name::Discard,
         least: 0,
-        most: Most::Any,
+        most: None,
         pairs: false,
         queueable: false,
     },
@@ -199,7 +194,7 @@ const ROWS: [Row; 22] = [
         length: 5,
         name: Name::Watch,
         least: 1,
-        most: Most::Any,
+        most: None,
         pairs: false,
         queueable: false,
     },
@@ -208,7 +203,7 @@ const ROWS: [Row; 22] = [
         length: 7,
         name: Name::Unwatch,
         least: 0,
-        most: Most::Any,
+        most: None,
         pairs: false,
         queueable: false,
     },
@@ -217,7 +212,7 @@ const ROWS: [Row; 22] = [
         length: 4,
         name: Name::Quit,
         least: 0,
-        most: Most::Any,
+        most: None,
         pairs: false,
         queueable: false,
     },
@@ -226,7 +221,7 @@ const ROWS: [Row; 22] = [
         length: 0,
         name: Name::Unknown,
         least: 0,
-        most: Most::Any,
+        most: None,
         pairs: false,
         queueable: false,
     },
@@ -245,30 +240,21 @@ pub enum Control {
 }
 
 // Is `count` not above the most?
-fn not_above(most: Most, count: usize) -> bool
-    ensures { result ≡ not_above count (most_meant most) }
+fn not_above(most: Option<usize>, count: usize) -> bool
+    ensures { result ≡ not_above count most }
 {
     match most {
-        Most::Any => true,
-        Most::Count(n) => count <= n,
+        None => true,
+        Some(n) => count <= n,
     }
 }
 
 // Is `count` a right number of arguments, the name not counted?
+#[tactic(auto, unfolding(command_spec::specs::Names::count_right))]
 pub fn count_right(row: Row, count: usize) -> bool
     ensures { result ≡ count_right (row_meant row) count }
 {
-    if count < row.least {
-        return false;
-    }
-    let most = row.most;
-    if not_above(most, count) {
-        if row.pairs {
-            return count % 2 == 0;
-        }
-        return true;
-    }
-    false
+    row.least <= count && not_above(row.most, count) && (!row.pairs || count % 2 == 0)
 }
 
 // The operation of a name that may be queued, and PING for any other.
@@ -277,128 +263,86 @@ pub fn operation_of(name: Name) -> Operation
 {
     match name {
         Name::Queueable(operation) => operation,
-        Name::Dbsize => Operation::Ping,
-        Name::Keys => Operation::Ping,
-        Name::Scan => Operation::Ping,
-        Name::Range => Operation::Ping,
-        Name::Multi => Operation::Ping,
-        Name::Exec => Operation::Ping,
-        Name::Discard => Operation::Ping,
-        Name::Watch => Operation::Ping,
-        Name::Unwatch => Operation::Ping,
-        Name::Quit => Operation::Ping,
-        Name::Unknown => Operation::Ping,
+        _ => Operation::Ping,
     }
 }
 
 // Is this SET with options, by its `count` of arguments, the name not counted?
+#[tactic(auto, unfolding(command_spec::specs::Names::with_options))]
 fn set_with_options(operation: Operation, count: usize) -> bool
     ensures { result ≡ with_options operation count }
 {
-    match operation {
-        Operation::Get => false,
-        Operation::Set => 2 < count,
-        Operation::Del => false,
-        Operation::Exists => false,
-        Operation::Mget => false,
-        Operation::Mset => false,
-        Operation::Incr => false,
-        Operation::Incrby => false,
-        Operation::Decr => false,
-        Operation::Ping => false,
-        Operation::Echo => false,
-    }
+    matches!(operation, Operation::Set) && 2 < count
 }
 
 // The same, by its row.
 pub fn with_options(row: Row, count: usize) -> bool
     ensures { result ≡ with_options (operation_of row.name) count }
 {
-    let name = row.name;
-    set_with_options(operation_of(name), count)
+    set_with_options(operation_of(row.name), count)
 }
 
 // May a command with `count` arguments, the name not counted, be queued as it was sent?
+#[tactic(auto, unfolding(command_spec::specs::Names::may_queue))]
 pub fn may_queue(row: Row, count: usize) -> bool
     ensures { result ≡ may_queue (row_meant row) count }
 {
-    if row.queueable {
-        if count_right(row, count) {
-            return !with_options(row, count);
-        }
-        return false;
-    }
-    false
+    row.queueable && count_right(row, count) && !with_options(row, count)
 }
 
 // What the command of a row does to a session.
 pub fn control_of(row: Row) -> Control
     ensures { control_said result ≡ control_of row.name }
 {
-    let name = row.name;
-    match name {
+    match row.name {
         Name::Multi => Control::Multi,
         Name::Exec => Control::Exec,
         Name::Discard => Control::Discard,
         Name::Watch => Control::Watch,
         Name::Unwatch => Control::Unwatch,
         Name::Quit => Control::Quit,
-        Name::Queueable(_) => Control::Other,
-        Name::Dbsize => Control::Other,
-        Name::Keys => Control::Other,
-        Name::Scan => Control::Other,
-        Name::Range => Control::Other,
-        Name::Unknown => Control::Other,
+        _ => Control::Other,
     }
+}
+
+// Is each byte of `word`, as a capital, the one of `text` at its place?
+fn alike(word: &[u8], text: &[u8]) -> bool
+    ensures { result ≡ list_all (λ p. eqb (upper p.0) p.1) (zip word.now text.now) }
+{
+    word.iter().zip(text).all(|(byte, capital)| resp_sanitize::upper_byte(*byte) == *capital)
 }
 
 // Is `word` the name `text`, which is in capitals, in any letter case?
 pub fn same(word: &[u8], text: &[u8]) -> bool
     ensures { result ≡ same_name word.now text.now }
 {
-    if word.len() != text.len() {
-        return false;
-    }
-    let mut j = 0;
-    while j < word.len() {
-        if resp_sanitize::upper_byte(word[j]) != text[j] {
-            return false;
-        }
-        j += 1;
-    }
-    true
+    word.len() == text.len() && alike(word, text)
 }
 
 // Is `word` the name of this row?
-fn is_named(row: Row, word: &[u8]) -> bool
-    requires { row.length ≤ length row.text }
-    ensures { result ≡ same_name word.now (take row.length row.text) }
+fn is_named(row: &Row, word: &[u8]) -> bool
+    requires { row.now.length ≤ length row.now.text }
+    ensures { result ≡ same_name word.now (take row.now.length row.now.text) }
 {
-    let text = row.text;
-    let length = row.length;
-    same(word, &text[0..length])
+    same(word, &row.text[..row.length])
 }
 
 // The table.
-fn table() -> [Row; 22]
-    ensures { TableRight result }
+fn table() -> &'static [Row; 22]
+    ensures { TableRight result.now }
 {
-    ROWS
+    &ROWS
 }
 
 // The row of the command that a word names.
 pub fn look_up(word: &[u8]) -> Row
     ensures { Looked word.now result }
 {
-    // A local, since a constant that a loop reads is made anew at each turn.
     let rows = table();
-    let mut k = 0;
-    while k < UNKNOWN {
-        let row = rows[k];
+    for row in &rows[..UNKNOWN] {
         if is_named(row, word) {
-            return row;
+            return *row;
         }
-        k += 1;
     }
     rows[UNKNOWN]
 }

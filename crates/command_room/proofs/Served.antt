@@ -8,13 +8,9 @@ use lib.Dec.{leb, ltb}
 use lib.ListN.{length, replicate}
 use borrow.Author.Tests.{le-leb, lt-leb, lt-ltb, leb-true, ltb-true}
 use Rattle.base_key.specs.Bytes.{Bytes}
-use Rattle.base_writing.specs.declared.Put.{Put}
-use Rattle.base_writing.specs.declared.Put.TheVariants.{Wrote, Full}
 use Rattle.base_writing.specs.Puts.{Puts}
 use Rattle.base_writing.proofs.Puts.{length_kept}
 use Rattle.resp_spec.specs.Reply.{Reply, encode}
-use Rattle.store_memtable.specs.declared.open.Left.{Left}
-use Rattle.store_memtable.specs.declared.open.Left.TheVariants.{Rest, Short}
 use Rattle.store_memtable.specs.Table.{Write}
 use Rattle.store_memtable.specs.Versions.{writes_size, commit}
 use Rattle.store_memtable.specs.Layout.{count_word, used_word, last_word, most_versions_word, most_bytes_word, store_in, leave_words, leave_bytes}
@@ -33,6 +29,7 @@ use Rattle.command_room.specs.Writes.{RoomForAll, verdict_left, verdict_answer}
 use Rattle.command_answer.specs.Answers.{refusal, put_answer}
 use Rattle.command_room.specs.Served.{buffer_after, effect_served, Runs}
 use Rattle.command_answer.proofs.Finish.{Cleared, finish_wrote, says_wrote, finish_full, full_cleared, says_number}
+use Rattle.std.specs.Prelude.{Option, None, Some}
 
 -- THE VERDICT of writes without a read sequence
 module _ (w b : List ℕ) (v : Valid w b) (ws : List Write) where
@@ -41,7 +38,7 @@ module _ (w b : List ℕ) (v : Valid w b) (ws : List Write) where
   unfolding verdict_alone judge conflicts has_room has_sequences store_in
   alone_is = ap (λ (t : Bool). cond t (cond (ltb (last_word w + length ws) (2 ^ 64)) Accepted NoSequence) NoRoom) (sym (room_is w b (length ws) (writes_size ws) v))
 
-  pub verdict_is : {n : ℕ} {l : Left} → n ≡ length ws → l ≡ bytes_left (most_bytes_word w - used_word w) (writes_size ws)
+  pub verdict_is : {n : ℕ} {l : Option ℕ} → n ≡ length ws → l ≡ bytes_left (most_bytes_word w - used_word w) (writes_size ws)
       → verdict_left w n l ≡ verdict_alone (store_in w b) (plain ws)
   unfolding verdict_left room_in
   verdict_is {n} {l} n-is l-is = ap (λ (m : ℕ). verdict_left w m l) n-is ∙ go l l-is ∙ sym alone_is
@@ -60,18 +57,18 @@ module _ (w b : List ℕ) (v : Valid w b) (ws : List Write) where
       rows : Bool
       rows = leb (count_word w + length ws) (most_versions_word w)
 
-      go : (o : Left) → o ≡ bytes_left (most_bytes_word w - used_word w) (writes_size ws)
+      go : (o : Option ℕ) → o ≡ bytes_left (most_bytes_word w - used_word w) (writes_size ws)
           → verdict_left w (length ws) o ≡ cond (rows && leb (used_word w + writes_size ws) (most_bytes_word w)) ends NoRoom
-      go (Rest k) e =
+      go (Some k) e =
           let r = rest_within (most_bytes_word w - used_word w) (writes_size ws) k (sym e) in
           let u = v.used_fits in
           rw (le-leb (used_word w + writes_size ws) (most_bytes_word w) (omega (arith, r.0))) (ap (λ (t : Bool). cond t ends NoRoom) (sym (and_true rows)))
-      go Short e =
+      go None e =
           let r = short_above (most_bytes_word w - used_word w) (writes_size ws) (sym e) in
           rw (lt-leb (used_word w + writes_size ws) (most_bytes_word w) (omega (arith, r))) (ap (λ (t : Bool). cond t ends NoRoom) (sym (and-false rows)))
 
 -- room where the writes are accepted
-pub accepted_room : (w : List ℕ) (ws : List Write) {n : ℕ} {l : Left} → n ≡ length ws → l ≡ bytes_left (most_bytes_word w - used_word w) (writes_size ws)
+pub accepted_room : (w : List ℕ) (ws : List Write) {n : ℕ} {l : Option ℕ} → n ≡ length ws → l ≡ bytes_left (most_bytes_word w - used_word w) (writes_size ws)
     → used_word w ≤ most_bytes_word w → verdict_left w n l ≡ Accepted → RoomForAll w ws
 unfolding verdict_left
 accepted_room w ws {n} {l} n-is l-is u e = go l l-is e (leb (count_word w + n) (most_versions_word w)) refl (ltb (last_word w + n) (2 ^ 64)) refl
@@ -79,19 +76,19 @@ accepted_room w ws {n} {l} n-is l-is u e = go l l-is e (leb (count_word w + n) (
     no : {A : Type 0} {x : Verdict} → (x ≡ NoRoom) → (x ≡ Accepted) → A
     no p q = let z : ◌≡◌ {A = ℕ} 0 1 = cc in absurd (omega arith)
 
-    go : (o : Left) → o ≡ bytes_left (most_bytes_word w - used_word w) (writes_size ws) → verdict_left w n o ≡ Accepted
+    go : (o : Option ℕ) → o ≡ bytes_left (most_bytes_word w - used_word w) (writes_size ws) → verdict_left w n o ≡ Accepted
         → (r : Bool) → leb (count_word w + n) (most_versions_word w) ≡ r → (t : Bool) → ltb (last_word w + n) (2 ^ 64) ≡ t → RoomForAll w ws
-    go (Rest k) p q true r true t =
+    go (Some k) p q true r true t =
         let f = rest_within (most_bytes_word w - used_word w) (writes_size ws) k (sym p) in
         let a = leb-true (count_word w + n) (most_versions_word w) r in
         let c = ltb-true (last_word w + n) (2 ^ 64) t in
         record { rows_free = omega (arith, a); bytes_free = omega (arith, f.0); seqs_free = omega (arith, c) }
-    go (Rest k) p q true r false t = let x = rw (r, t) at q in let z : ◌≡◌ {A = ℕ} 0 1 = cc in absurd (omega arith)
-    go (Rest k) p q false r s t = let x = rw r at q in let z : ◌≡◌ {A = ℕ} 0 1 = cc in absurd (omega arith)
-    go Short p q r a t c = let z : ◌≡◌ {A = ℕ} 0 1 = cc in absurd (omega arith)
+    go (Some k) p q true r false t = let x = rw (r, t) at q in let z : ◌≡◌ {A = ℕ} 0 1 = cc in absurd (omega arith)
+    go (Some k) p q false r s t = let x = rw r at q in let z : ◌≡◌ {A = ℕ} 0 1 = cc in absurd (omega arith)
+    go None p q r a t c = let z : ◌≡◌ {A = ℕ} 0 1 = cc in absurd (omega arith)
 
 -- THE CALL: a reply put into a cleared buffer, a verdict, and the answer that they make
-module _ (e : Effect) (w b : List ℕ) (used : ℕ) {out mid : Bytes} {put : Put} {v : Verdict}
+module _ (e : Effect) (w b : List ℕ) (used : ℕ) {out mid : Bytes} {put : Option ℕ} {v : Verdict}
     (p : Puts (encode e.0) out put mid) (v-is : v ≡ verdict_alone (store_in w b) (plain e.1)) where
   served : (s : Session) → effect_served (length out) used e (store_in w b) s ≡ finish (length out) used (committed v e (store_in w b) s) (store_in w b) s
   unfolding effect_served
@@ -124,12 +121,12 @@ module _ (e : Effect) (w b : List ℕ) (used : ℕ) {out mid : Bytes} {put : Put
       Both : Session → Type 0
       Both s = Says (effect_served (length out) used e (store_in w b) s) out r out' × StoreLeft (effect_served (length out) used e (store_in w b) s) w b w' b'
 
-      go : (x : Verdict) → v ≡ x → (q : Put) → put ≡ q → (s : Session) → r ≡ verdict_answer x q used → (verdict_answer x q used).number ≡ 0 → out' ≡ buffer_after x mid → Both s
-      go Accepted x-is (Wrote k) q-is s a z o =
+      go : (x : Verdict) → v ≡ x → (q : Option ℕ) → put ≡ q → (s : Session) → r ≡ verdict_answer x q used → (verdict_answer x q used).number ≡ 0 → out' ≡ buffer_after x mid → Both s
+      go Accepted x-is (Some k) q-is s a z o =
           rw (served s, x-is) (unfold committed in
           rw (finish_wrote e.0 p used (store_in w b) (commit e.1 (store_in w b)) s s q-is, a, o)
           (says_wrote e.0 p used (store_in w b) (commit e.1 (store_in w b)) s s q-is cleared, record { words = w-is; bytes = b-is }))
-      go Accepted x-is Full q-is s a z o = absurd (omega arith)
+      go Accepted x-is None q-is s a z o = absurd (omega arith)
       go Conflict x-is q q-is s a z o = absurd (omega arith)
       go NoRoom x-is q q-is s a z o = absurd (omega arith)
       go NoSequence x-is q q-is s a z o = absurd (omega arith)
@@ -144,9 +141,9 @@ module _ (e : Effect) (w b : List ℕ) (used : ℕ) {out mid : Bytes} {put : Put
       Both : Session → Type 0
       Both s = Says (effect_served (length out) used e (store_in w b) s) out r out' × StoreLeft (effect_served (length out) used e (store_in w b) s) w b w b
 
-      go : (x : Verdict) → v ≡ x → (q : Put) → put ≡ q → (s : Session) → r ≡ verdict_answer x q used → out' ≡ buffer_after x mid → Both s
-      go Accepted x-is (Wrote k) q-is s a o = absurd (some (ap (λ (y : Answer). y.number) a))
-      go Accepted x-is Full q-is s a o =
+      go : (x : Verdict) → v ≡ x → (q : Option ℕ) → put ≡ q → (s : Session) → r ≡ verdict_answer x q used → out' ≡ buffer_after x mid → Both s
+      go Accepted x-is (Some k) q-is s a o = absurd (some (ap (λ (y : Answer). y.number) a))
+      go Accepted x-is None q-is s a o =
           refused 3 s val (rw x-is (unfold committed in finish_full e.0 p used (store_in w b) (commit e.1 (store_in w b)) s s q-is)) a
           (o ∙ full_cleared e.0 p used (store_in w b) (commit e.1 (store_in w b)) s s q-is)
       go Conflict x-is q q-is s a o = refused 1 s val (rw x-is (unfold committed finish finish_by in refl)) a (buffer_cleared Conflict o refl)
@@ -155,7 +152,7 @@ module _ (e : Effect) (w b : List ℕ) (used : ℕ) {out mid : Bytes} {put : Put
       go NotTaken x-is q q-is s a o = refused 255 s val (rw x-is (unfold committed finish finish_by in refl)) a (buffer_cleared NotTaken o refl)
 
 -- number 0: the verdict is Accepted
-pub answer_accepted : (v : Verdict) (put : Put) (used : ℕ) {r : Answer} → r ≡ verdict_answer v put used → r.number ≡ 0 → v ≡ Accepted
+pub answer_accepted : (v : Verdict) (put : Option ℕ) (used : ℕ) {r : Answer} → r ≡ verdict_answer v put used → r.number ≡ 0 → v ≡ Accepted
 unfolding verdict_answer
 answer_accepted v put used r-is zero = go v (ap (λ (x : Answer). x.number) (sym r-is) ∙ zero)
   where
@@ -167,7 +164,7 @@ answer_accepted v put used r-is zero = go v (ap (λ (x : Answer). x.number) (sym
     go NotTaken z = absurd (omega arith)
 
 -- THE ANSWER by the number of the verdict
-module _ (put : Put) (used : ℕ) (mid : Bytes) (v : Verdict) {n : ℕ} (n-is : n ≡ verdict_byte v) where
+module _ (put : Option ℕ) (used : ℕ) (mid : Bytes) (v : Verdict) {n : ℕ} (n-is : n ≡ verdict_byte v) where
   pub answer_refused : {r : Answer} → (n ≡ 0 → ⊥) → r ≡ refusal n → r ≡ verdict_answer v put used
   unfolding verdict_answer
   answer_refused some r-is = r-is ∙ go v n-is
@@ -214,23 +211,23 @@ unfolding verdict_left writes_size
 nothing_accepted w b v h =
     let c : leb (count_word w + 0) (most_versions_word w) ≡ true = le-leb (count_word w + 0) (most_versions_word w) (omega (arith, v.count_fits)) in
     let l : ltb (last_word w + 0) (2 ^ 64) ≡ true = lt-ltb (last_word w + 0) (2 ^ 64) (omega arith) in
-    sym (rw (c, l)) ∙ verdict_is w b v [] {n = 0} {l = Rest (most_bytes_word w - used_word w - 0)} refl (sym (left_rest (most_bytes_word w - used_word w) 0 (omega arith)))
+    sym (rw (c, l)) ∙ verdict_is w b v [] {n = 0} {l = Some (most_bytes_word w - used_word w - 0)} refl (sym (left_rest (most_bytes_word w - used_word w) 0 (omega arith)))
 
-pub runs_quiet : (p : Reply) (w b : List ℕ) (used : ℕ) {out out' : Bytes} {put : Put} {r : Answer} → Valid w b → last_word w < 2 ^ 64 → Cleared out
+pub runs_quiet : (p : Reply) (w b : List ℕ) (used : ℕ) {out out' : Bytes} {put : Option ℕ} {r : Answer} → Valid w b → last_word w < 2 ^ 64 → Cleared out
     → Puts (encode p) out put out' → r ≡ put_answer put used → Runs (p, []) used out w b r out' w b
 unfolding verdict_answer buffer_after put_answer commit
 runs_quiet p w b used {out} {out'} {put} {r} val h cleared puts r-is = go put refl r-is
   where
-    number_wrote : {k : ℕ} → r ≡ put_answer (Wrote k) used → r.number ≡ 0
+    number_wrote : {k : ℕ} → r ≡ put_answer (Some k) used → r.number ≡ 0
     number_wrote a = ap (λ (x : Answer). x.number) a
 
-    number_full : r ≡ put_answer Full used → r.number ≡ 3
+    number_full : r ≡ put_answer None used → r.number ≡ 3
     number_full a = ap (λ (x : Answer). x.number) a
 
-    go : (q : Put) → put ≡ q → r ≡ put_answer q used → Runs (p, []) used out w b r out' w b
-    go (Wrote k) e a =
+    go : (q : Option ℕ) → put ≡ q → r ≡ put_answer q used → Runs (p, []) used out w b r out' w b
+    go (Some k) e a =
         runs_written (p, []) w b used puts (nothing_accepted w b val h) cleared r-is (number_wrote a) refl
         (sym (leave_words_same w b val)) (sym (leave_bytes_same w b val))
-    go Full e a =
+    go None e a =
         runs_refused (p, []) w b used puts (nothing_accepted w b val h) val r-is
         (λ z. let n = number_full a in omega arith) refl

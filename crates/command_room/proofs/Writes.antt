@@ -4,13 +4,11 @@ use native.Mathlib.Omega.{arith}
 use mathlib.Core.Path.{◌≡◌, refl, sym, ap, ◌∙◌, subst}
 use mathlib.Core.Bool.{Bool, true, false}
 use mathlib.Core.List.{List, [], ◌∷◌}
-use mathlib.Core.Option.{some}
+use Rattle.std.specs.Prelude.{Some}
 use lib.Dec.{ltb}
 use lib.ListN.{length, get_or}
 use borrow.Author.Tests.{le-leb, lt-leb}
 use Rattle.base_key.specs.Bytes.{Bytes, total}
-use Rattle.store_memtable.specs.declared.open.Left.{Left}
-use Rattle.store_memtable.specs.declared.open.Left.TheVariants.{Rest, Short}
 use Rattle.store_memtable.specs.Table.{Write}
 use Rattle.store_memtable.specs.Versions.{bytes_of, writes_size, commit_one, commit}
 use Rattle.store_memtable.specs.Layout.{count_word, last_word, most_versions_word, store_in, leave_words, leave_bytes}
@@ -23,6 +21,7 @@ use Rattle.command_spec.specs.Places.{argument_at, lengths_at, tombstones_at, pa
 use Rattle.command_spec.proofs.PlaceLaws.{part_in, lengths_next, lengths_end, tombstones_next, tombstones_end, pairs_next, pairs_end}
 use Rattle.command_room.specs.Writes.{RoomForAll, verdict_left}
 use Rattle.command_room.proofs.Commits.{Commits, commits_none, commits_valid, commits_words, commits_bytes, commits_more}
+use Rattle.std.specs.Prelude.{Option, None}
 
 -- ONE WRITE, whose key and value are the parts that were taken
 module _ {w : List ℕ} {k name : Bytes} (name_is : name ≡ k) where
@@ -32,7 +31,7 @@ module _ {w : List ℕ} {k name : Bytes} (name_is : name ≡ k) where
       let n = ap length name_is in
       record { row_free = omega (arith, r.rows_free); bytes_free = omega (arith, r.bytes_free); seq_free = omega (arith, r.seqs_free) }
 
-  pub pair_room : {x value : Bytes} → value ≡ x → RoomForAll w ((k, some x) ∷ []) → RoomForOne w name (bytes_of (value_if true value))
+  pub pair_room : {x value : Bytes} → value ≡ x → RoomForAll w ((k, Some x) ∷ []) → RoomForOne w name (bytes_of (value_if true value))
   unfolding writes_size value_if
   pair_room value-is r =
       let n = ap length name_is in
@@ -52,14 +51,14 @@ module _ (w b : List ℕ) {k name : Bytes} (name_is : name ≡ k) where
 
   module _ {x value : Bytes} (value-is : value ≡ x) where
     pub pair_words : {w' : List ℕ} → w' ≡ leave_words (commit_one (name, value_if true value) (store_in w b)) w
-        → w' ≡ leave_words (commit_one (k, some x) (store_in w b)) w
+        → w' ≡ leave_words (commit_one (k, Some x) (store_in w b)) w
     unfolding value_if
-    pair_words e = e ∙ (λ z. leave_words (commit_one (name_is z, some (value-is z)) (store_in w b)) w)
+    pair_words e = e ∙ (λ z. leave_words (commit_one (name_is z, Some (value-is z)) (store_in w b)) w)
 
     pub pair_bytes : {b' : List ℕ} → b' ≡ leave_bytes (commit_one (name, value_if true value) (store_in w b)) b
-        → b' ≡ leave_bytes (commit_one (k, some x) (store_in w b)) b
+        → b' ≡ leave_bytes (commit_one (k, Some x) (store_in w b)) b
     unfolding value_if
-    pair_bytes e = e ∙ (λ z. leave_bytes (commit_one (name_is z, some (value-is z)) (store_in w b)) b)
+    pair_bytes e = e ∙ (λ z. leave_bytes (commit_one (name_is z, Some (value-is z)) (store_in w b)) b)
 
 -- THE COMMITS. The keys before place i have their tombstones
 pub record Deleting (p : List ℕ) (s : Bytes) (from to : ℕ) (w₀ b₀ w b : List ℕ) (i : ℕ) : Type 0 where
@@ -128,10 +127,10 @@ module _ {p : List ℕ} {s : Bytes} {from pairs : ℕ} {w₀ b₀ w b : List ℕ
   setting_valid = commits_valid d.commits
 
   module _ (h : j < pairs) where
-    next_puts : Commits (pairs_at from (2 * pairs) p s) ((argument_at (from + 2 * j) p s, some (argument_at (from + 2 * j + 1) p s)) ∷ pairs_at (from + 2 * (j + 1)) (2 * (pairs - (j + 1))) p s) w₀ b₀ w b
+    next_puts : Commits (pairs_at from (2 * pairs) p s) ((argument_at (from + 2 * j) p s, Some (argument_at (from + 2 * j + 1) p s)) ∷ pairs_at (from + 2 * (j + 1)) (2 * (pairs - (j + 1))) p s) w₀ b₀ w b
     next_puts =
         let f : from + 2 * j + 2 ≡ from + 2 * (j + 1) = omega arith in
-        let first : Write = (argument_at (from + 2 * j) p s, some (argument_at (from + 2 * j + 1) p s)) in
+        let first : Write = (argument_at (from + 2 * j) p s, Some (argument_at (from + 2 * j + 1) p s)) in
         subst (λ (l : List Write). Commits (pairs_at from (2 * pairs) p s) l w₀ b₀ w b)
         (pairs_next p s (from + 2 * j) (2 * (pairs - j)) (2 * (pairs - (j + 1))) (omega arith) ∙ ap (λ (k : ℕ). first ∷ pairs_at k (2 * (pairs - (j + 1))) p s) f) d.commits
 
@@ -141,11 +140,11 @@ module _ {p : List ℕ} {s : Bytes} {from pairs : ℕ} {w₀ b₀ w b : List ℕ
     pub setting_value : PartsIn p s (from + 2 * pairs) → KeyIn p s (2 * (from + 2 * j + 1))
     setting_value q = part_in p s (from + 2 * pairs) (from + 2 * j + 1) q (omega arith)
 
-    pub setting_room : RoomForAll w ((argument_at (from + 2 * j) p s, some (argument_at (from + 2 * j + 1) p s)) ∷ [])
+    pub setting_room : RoomForAll w ((argument_at (from + 2 * j) p s, Some (argument_at (from + 2 * j + 1) p s)) ∷ [])
     setting_room = one_room next_puts.room
 
-    pub setting_more : {w' b' : List ℕ} → w' ≡ leave_words (commit_one (argument_at (from + 2 * j) p s, some (argument_at (from + 2 * j + 1) p s)) (store_in w b)) w
-        → b' ≡ leave_bytes (commit_one (argument_at (from + 2 * j) p s, some (argument_at (from + 2 * j + 1) p s)) (store_in w b)) b
+    pub setting_more : {w' b' : List ℕ} → w' ≡ leave_words (commit_one (argument_at (from + 2 * j) p s, Some (argument_at (from + 2 * j + 1) p s)) (store_in w b)) w
+        → b' ≡ leave_bytes (commit_one (argument_at (from + 2 * j) p s, Some (argument_at (from + 2 * j + 1) p s)) (store_in w b)) b
         → Setting p s from pairs w₀ b₀ w' b' (j + 1)
     setting_more e f = let m = commits_more next_puts e f in record { within = omega arith; commits = m; same_words = m.same_words; same_bytes_lem = m.same_bytes_lem }
 
@@ -177,23 +176,23 @@ module _ {p : List ℕ} {from to left rest i : ℕ} (l : Lasting p from to left 
     pub lasting_more : len ≤ rest → Lasting p from to left (rest - len) (i + 1)
     lasting_more k = record { within = omega arith; whole = here ∙ left_then rest len _ (rest - len) (left_rest rest len k) }
 
-    pub lasting_short : rest < len → Short ≡ bytes_left left (total (lengths_at from (to - from) p))
+    pub lasting_short : rest < len → None ≡ bytes_left left (total (lengths_at from (to - from) p))
     unfolding bytes_left
     lasting_short k = sym (here ∙ short_then rest len _ (rw (lt-leb len rest k)))
 
-  pub lasting_all : to ≤ i → Rest rest ≡ bytes_left left (total (lengths_at from (to - from) p))
+  pub lasting_all : to ≤ i → Some rest ≡ bytes_left left (total (lengths_at from (to - from) p))
   unfolding total
   lasting_all h =
       let z : rest - 0 ≡ rest = omega arith in
-      sym (l.whole ∙ ap (λ (x : List ℕ). bytes_left rest (total x)) (lengths_end p to i h) ∙ left_rest rest 0 (omega arith) ∙ ap Rest z)
+      sym (l.whole ∙ ap (λ (x : List ℕ). bytes_left rest (total x)) (lengths_end p to i h) ∙ left_rest rest 0 (omega arith) ∙ ap Some z)
 
 -- THE VERDICT
-module _ (w : List ℕ) (writes : ℕ) {l : Left} where
-  pub verdict_short : l ≡ Short → NoRoom ≡ verdict_left w writes l
+module _ (w : List ℕ) (writes : ℕ) {l : Option ℕ} where
+  pub verdict_short : l ≡ None → NoRoom ≡ verdict_left w writes l
   unfolding verdict_left
   verdict_short e = rw e
 
-  module _ {n : ℕ} {c m : ℕ} (e : l ≡ Rest n) (m-is : m ≡ most_versions_word w) (c-is : c ≡ count_word w) (f : count_word w ≤ most_versions_word w) where
+  module _ {n : ℕ} {c m : ℕ} (e : l ≡ Some n) (m-is : m ≡ most_versions_word w) (c-is : c ≡ count_word w) (f : count_word w ≤ most_versions_word w) where
     pub verdict_full : m - c < writes → NoRoom ≡ verdict_left w writes l
     unfolding verdict_left
     verdict_full h = rw (e, lt-leb (count_word w + writes) (most_versions_word w) (omega arith))

@@ -1,6 +1,6 @@
 -- What a command outside MULTI gives and leaves, from its reply and its writes.
 use Rattle.std.specs.Prelude.{ℕ, ◌-◌, ◌≡◌, cond, List, [], ◌∷◌, ◌++◌, length, replicate, ℤ, pos}
-use Rattle.std.proofs.Math.Option.{some}
+use Rattle.std.specs.Prelude.{Some}
 use Rattle.base_key.specs.Bytes.{Bytes}
 use Rattle.base_key.specs.Keys.{Key}
 use Rattle.base_number.specs.Decimal.{decimal}
@@ -43,7 +43,7 @@ deletion count places input w b =
 
 -- a counter that is put to a number
 unfoldable pub counted : Key → ℤ → Effect
-counted k n = (Integer n, (k, some (decimal n)) ∷ [])
+counted k n = (Integer n, (k, Some (decimal n)) ∷ [])
 
 -- the reply of an integer by its text
 unfoldable pub integer_text : Bytes → Bytes
@@ -52,7 +52,7 @@ integer_text text = 58 ∷ text ++ crlf
 -- a counter by the text of its new value, before its commit and after it
 pub record AdmittedText (k : Key) (text : Bytes) (used : ℕ) (out : Bytes) (w : List ℕ) (b : Bytes) (r : Answer) (out' : Bytes) : Type 0 where
   pub is : (n : ℤ) → text ≡ decimal n → Admitted (counted k n) used out w b r out'
-  pub room : r.number ≡ 0 → RoomForAll w ((k, some text) ∷ [])
+  pub room : r.number ≡ 0 → RoomForAll w ((k, Some text) ∷ [])
 
 pub record RunsText (k : Key) (text : Bytes) (used : ℕ) (out : Bytes) (w : List ℕ) (b : Bytes) (r : Answer) (out' : Bytes) (w' : List ℕ) (b' : Bytes) : Type 0 where
   pub is : (n : ℤ) → text ≡ decimal n → Runs (counted k n) used out w b r out' w' b'

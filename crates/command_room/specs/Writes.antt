@@ -1,8 +1,5 @@
 -- The writes of a command outside MULTI: room for them, and what the verdict and the reply make of the call.
 use Rattle.std.specs.Prelude.{ℕ, ◌+◌, ◌^◌, ◌≤◌, ◌<◌, cond, List, leb, ltb, length}
-use Rattle.base_writing.specs.declared.Put.{Put}
-use Rattle.store_memtable.specs.declared.open.Left.{Left}
-use Rattle.store_memtable.specs.declared.open.Left.TheVariants.{Rest, Short}
 use Rattle.store_memtable.specs.Table.{Write}
 use Rattle.store_memtable.specs.Versions.{writes_size}
 use Rattle.store_memtable.specs.Layout.{count_word, used_word, last_word, most_versions_word, most_bytes_word}
@@ -11,6 +8,7 @@ use Rattle.group_spec.specs.declared.Verdict.TheVariants.{Accepted, NoRoom, NoSe
 use Rattle.group_spec.specs.Group.{verdict_byte, is_accepted}
 use Rattle.command_spec.specs.declared.Answer.{Answer}
 use Rattle.command_answer.specs.Answers.{refusal, put_answer}
+use Rattle.std.specs.Prelude.{Option, None, Some}
 
 -- room for these writes, and sequences
 pub record RoomForAll (w : List ℕ) (ws : List Write) : Type 0 where
@@ -25,10 +23,10 @@ pub record HeaderIn (w : List ℕ) : Type 0 where
   pub used_fits : used_word w ≤ most_bytes_word w
 
 -- the verdict of `writes` writes, by what their bytes leave of the free ones
-unfoldable pub verdict_left : List ℕ → ℕ → Left → Verdict
-verdict_left w writes (Rest n) = cond (leb (count_word w + writes) (most_versions_word w)) (cond (ltb (last_word w + writes) (2 ^ 64)) Accepted NoSequence) NoRoom
-verdict_left w writes Short = NoRoom
+unfoldable pub verdict_left : List ℕ → ℕ → Option ℕ → Verdict
+verdict_left w writes (Some n) = cond (leb (count_word w + writes) (most_versions_word w)) (cond (ltb (last_word w + writes) (2 ^ 64)) Accepted NoSequence) NoRoom
+verdict_left w writes None = NoRoom
 
 -- 6 and 7 come before 3
-unfoldable pub verdict_answer : Verdict → Put → ℕ → Answer
+unfoldable pub verdict_answer : Verdict → Option ℕ → ℕ → Answer
 verdict_answer v put used = cond (is_accepted v) (put_answer put used) (refusal (verdict_byte v))

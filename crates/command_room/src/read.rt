@@ -2,40 +2,26 @@
 ghost use Rattle.std.specs.Prelude.{◌≡◌, ◌-◌, ◌^◌, ◌≤◌, ◌<◌, pos};
 ghost use Rattle.base_writing.specs.Puts.{Puts};
 ghost use Rattle.resp_spec.specs.Reply.{Integer, bulk_or, encode};
-ghost use Rattle.store_memtable.specs.Rows.{Valid};
 ghost use Rattle.command_spec.specs.Command.{held};
 ghost use Rattle.command_spec.specs.Places.{arguments_at, PartsIn};
 ghost use Rattle.command_room.specs.Reading.{last_reader, LiveIs, values_reply};
 
-use base_number::Number;
-use base_writing::Put;
+use command_lookup::reader::Reader;
 use command_lookup::{counter, live, values};
 use resp_encode::reply;
-use store_memtable::LAST;
+use store_memtable::store::Store;
 
 // How many of the keys from place 1 up to `count` are live, a repeated one counted each time.
-pub fn count_live(input: &[u8], places: &[u64], count: usize, words: &[u64], bytes: &[u8]) -> u64
+pub fn count_live(input: &[u8], places: &[u64], count: usize, store: &Store) -> u64
     requires parts_in { PartsIn places.now input.now count }
     requires le_count { 1 ≤ count }
-    requires valid { Valid words.now bytes.now }
-    ensures { LiveIs words.now bytes.now (arguments_at 1 (count - 1) places.now input.now) result }
+    ensures { LiveIs store.now.words.now store.now.bytes.now (arguments_at 1 (count - 1) places.now input.now) result }
 {
-    live::count_live(
-        &words[..0],
-        0,
-        &bytes[..0],
-        words,
-        bytes,
-        words[LAST],
-        input,
-        places,
-        1,
-        count,
-    )
+    live::count_live(&Reader::last(store), input, places, 1, count)
 }
 
 // Writes a count as an integer.
-pub fn put_count(out: &mut [u8], n: u64) -> Put
+pub fn put_count(out: &mut [u8], n: u64) -> Option<usize>
     requires { n < 2 ^ 63 }
     ensures { Puts (encode (Integer (pos n))) out.old result out.new }
 {
@@ -43,29 +29,17 @@ pub fn put_count(out: &mut [u8], n: u64) -> Put
 }
 
 // The number that `name` holds.
-pub fn held_number(words: &[u64], bytes: &[u8], name: &[u8]) -> Number
-    requires { Valid words.now bytes.now }
-    ensures { result ≡ held (last_reader words.now bytes.now name.now) }
+pub fn held_number(store: &Store, name: &[u8]) -> Option<i64>
+    ensures { result ≡ held (last_reader store.now.words.now store.now.bytes.now name.now) }
 {
-    counter::held_number(&words[..0], 0, &bytes[..0], words, bytes, words[LAST], name)
+    counter::held_number(&Reader::last(store), name)
 }
 
 // Writes the value of `name`, or nil.
-pub fn put_value(out: &mut [u8], words: &[u64], bytes: &[u8], name: &[u8]) -> Put
-    requires { Valid words.now bytes.now }
-    ensures { Puts (encode (bulk_or (last_reader words.now bytes.now name.now))) out.old result out.new }
+pub fn put_value(out: &mut [u8], store: &Store, name: &[u8]) -> Option<usize>
+    ensures { Puts (encode (bulk_or (last_reader store.now.words.now store.now.bytes.now name.now))) out.old result out.new }
 {
-    values::then_value(
-        out,
-        Put::Wrote(0),
-        &words[..0],
-        0,
-        &bytes[..0],
-        words,
-        bytes,
-        words[LAST],
-        name,
-    )
+    values::then_value(out, Some(0), &Reader::last(store), name)
 }
 
 // Writes the array of the values of the keys from place 1 up to `count`.
@@ -74,26 +48,11 @@ pub fn put_values(
     input: &[u8],
     places: &[u64],
     count: usize,
-    words: &[u64],
-    bytes: &[u8],
-) -> Put
+    store: &Store,
+) -> Option<usize>
     requires parts_in { PartsIn places.now input.now count }
     requires le_count { 1 ≤ count }
-    requires valid { Valid words.now bytes.now }
-    ensures { Puts (encode (values_reply words.now bytes.now (arguments_at 1 (count - 1) places.now input.now))) out.old result out.new }
+    ensures { Puts (encode (values_reply store.now.words.now store.now.bytes.now (arguments_at 1 (count - 1) places.now input.now))) out.old result out.new }
 {
-    values::then_values(
-        out,
-        Put::Wrote(0),
-        &words[..0],
-        0,
-        &bytes[..0],
-        words,
-        bytes,
-        words[LAST],
-        input,
-        places,
-        1,
-        count,
-    )
+    values::then_values(out, Some(0), &Reader::last(store), input, places, 1, count)
 }

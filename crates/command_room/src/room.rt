@@ -7,29 +7,25 @@ ghost use Rattle.command_spec.specs.Places.{lengths_at};
 ghost use Rattle.command_room.specs.Writes.{HeaderIn, verdict_left, verdict_answer};
 ghost use Rattle.command_room.specs.Served.{buffer_after};
 
-use base_writing::Put;
 use command_spec::Answer;
 use group_spec::Verdict;
-use store_memtable::open::Left;
 use store_memtable::{LAST, read};
 
 // What the arguments from place `from` to `to` leave of `left` bytes.
-pub fn lengths_left(places: &[u64], from: usize, to: usize, left: usize) -> Left
+pub fn lengths_left(places: &[u64], from: usize, to: usize, left: usize) -> Option<usize>
     requires to_in_bounds { 2 * to ≤ length places.now }
     requires from_le_to { from ≤ to }
     ensures { result ≡ bytes_left left (total (lengths_at from (to - from) places.now)) }
 {
     let mut rest = left;
-    let mut i = from;
-    while i < to {
+    for i in from..to {
         let len = read::word(places, 2 * i + 1);
         if rest < len {
-            return Left::Short;
+            return None;
         }
         rest -= len;
-        i += 1;
     }
-    Left::Rest(rest)
+    Some(rest)
 }
 
 // The bytes that are free.
@@ -41,11 +37,11 @@ pub fn free_bytes(words: &[u64]) -> usize
 }
 
 // The verdict of `writes` writes, by what their bytes leave of the free ones.
-pub fn verdict_for(words: &[u64], writes: usize, left: Left) -> Verdict
+pub fn verdict_for(words: &[u64], writes: usize, left: Option<usize>) -> Verdict
     requires { HeaderIn words.now }
     ensures { result ≡ verdict_left words.now writes left }
 {
-    let Left::Rest(_) = left else {
+    let Some(_) = left else {
         return Verdict::NoRoom;
     };
     if read::word(words, 3) - read::word(words, 0) < writes {
@@ -58,7 +54,7 @@ pub fn verdict_for(words: &[u64], writes: usize, left: Left) -> Verdict
 }
 
 // The answer after a verdict, with the reply that was put: 6 and 7 come before 3, and clear the buffer.
-pub fn verdict_answer(out: &mut [u8], verdict: Verdict, put: Put, used: usize) -> Answer
+pub fn verdict_answer(out: &mut [u8], verdict: Verdict, put: Option<usize>, used: usize) -> Answer
     ensures value { result ≡ verdict_answer verdict put used }
     ensures out_after { out.new ≡ buffer_after verdict out.old }
 {

@@ -6,7 +6,6 @@ use Prim.Native.Nat.{ℕ, ◌+◌, ◌-◌, ◌≤◌, ◌<◌}
 use Rattle.resp_spec.proofs.ReplyTexts.{clean_quote}
 use Rattle.base_key.specs.Bytes.{Bytes, bytes, same_bytes}
 use Rattle.base_key.proofs.Keys.{same_is, same_bytes_lem}
-use Rattle.base_writing.specs.declared.Put.{Put}
 use native.Mathlib.Decide.{dec_le}
 use native.Mathlib.Omega.{arith}
 use borrow.Author.Tests.{le-leb, lt-leb}
@@ -22,12 +21,13 @@ use Rattle.command_spec.specs.Names.{Row, rows, row_in, row_of, same_name, count
 use Rattle.command_spec.specs.Command.{unknown_command}
 use Rattle.command_spec.specs.Session.{not_queueable}
 use Rattle.command_spec.specs.Errors.{fixed_reply, arity_of}
+use Rattle.std.specs.Prelude.{Option}
 
 -- a fixed reply by its name
-pub write_fixed : {f g : Fixed} {text entry exit : Bytes} {put : Put} → f ≡ g → text ≡ encode (fixed_reply g) → Puts text entry put exit → Puts (encode (fixed_reply f)) entry put exit
+pub write_fixed : {f g : Fixed} {text entry exit : Bytes} {put : Option ℕ} → f ≡ g → text ≡ encode (fixed_reply g) → Puts text entry put exit → Puts (encode (fixed_reply f)) entry put exit
 write_fixed e t p = rw (e, ← t) p
 
-module _ {l0 l1 l2 l3 : Bytes} {u1 u2 u3 : Put} (word : Bytes) where
+module _ {l0 l1 l2 l3 : Bytes} {u1 u2 u3 : Option ℕ} (word : Bytes) where
   pub write_unknown : Puts (bytes "-ERR unknown command '") l0 u1 l1 → Adds (map clean (lossy word)) u1 l1 u2 l2 → Adds (bytes "'\r\n") u2 l2 u3 l3 → Puts (encode (unknown_command word)) l0 u3 l3
   unfolding encode
   write_unknown a b c =

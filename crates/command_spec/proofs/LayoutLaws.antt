@@ -4,7 +4,7 @@ use Prim.Native.Nat.{ℕ, zero, suc, ◌+◌, ◌*◌, ◌≤◌, ◌<◌}
 use native.Mathlib.Omega.{arith}
 use mathlib.Core.List.{List, ◌++◌, map, append_assoc}
 use mathlib.Core.Bool.{Bool, true, false, cond, false≢true}
-use mathlib.Core.Option.{Option, none, some}
+use Rattle.std.specs.Prelude.{Option, None, Some}
 use mathlib.Core.Path.{◌≡◌, refl, sym, ap, ◌∙◌}
 use native.Mathlib.Decide.{dec_lt, ℕ_discrete}
 use lib.Dec.{leb, eqb}
@@ -72,7 +72,7 @@ module _ (last : ℕ) (w : List ℕ) (b : Bytes) (lw : length w ≡ 644) (lb : l
   unfolding session_ok session_from
   session_sound e = record { watch = watch_sound (and_left _ _ e); queue = go (yes? (multi_word w b)) (queue_sound (and_right (watch_ok last w b) _ e)) }
     where
-      go : (t : Bool) → QueueSound (queue_in w b) → QueueHolds (cond t (some (queue_in w b)) none)
+      go : (t : Bool) → QueueSound (queue_in w b) → QueueHolds (cond t (Some (queue_in w b)) None)
       go true g = g
       go false g = tt
 
@@ -106,8 +106,8 @@ module _ (last : ℕ) (s : Session) (good : SessionSound last s) where
       record { keys = good.watch.counted; key_bytes = good.watch.sized; commands = c.0; arguments = c.1; argument_bytes = c.2 }
     where
       queued : (x : Option (List Args)) → QueueHolds x → (length (queue_of x) ≤ 64) × (total (map length (queue_of x)) ≤ 512) × (total (map length (concat (queue_of x))) ≤ 8192)
-      queued none h = unfold total concat in (omega arith, omega arith, omega arith)
-      queued (some x) h = (h.counted, h.arguments, h.sized)
+      queued None h = unfold total concat in (omega arith, omega arith, omega arith)
+      queued (Some x) h = (h.counted, h.arguments, h.sized)
 
   module _ (w : List ℕ) (b : Bytes) (lw : length w ≡ 644) (lb : length b ≡ 10240) where
     abbrev ks : List Key
@@ -240,13 +240,13 @@ module _ (last : ℕ) (s : Session) (good : SessionSound last s) where
     session_back =
         let multi : yes? (multi_word W B) ≡ multi_of s.queue = unfold session_words in flag_back (multi_of s.queue) (multi_word w b) in
         let failed : yes? (failed_word W B) ≡ s.failed = unfold session_words in flag_back s.failed (failed_word w b) in
-        let queue : cond (yes? (multi_word W B)) (some (queue_in W B)) none ≡ s.queue = (λ z. cond (multi z) (some (queue_back z)) none) ∙ queued s.queue in
+        let queue : cond (yes? (multi_word W B)) (Some (queue_in W B)) None ≡ s.queue = (λ z. cond (multi z) (Some (queue_back z)) None) ∙ queued s.queue in
         let watch : paired (keys_in W B) (key_sequences W B) ≡ s.watch = (λ z. paired (keys_back z) (sequences z)) ∙ paired_back s.watch in
         λ z. record { queue = queue z; failed = failed z; watch = watch z }
       where
-        queued : (x : Option (List Args)) → cond (multi_of x) (some (queue_of x)) none ≡ x
-        queued none = refl
-        queued (some x) = refl
+        queued : (x : Option (List Args)) → cond (multi_of x) (Some (queue_of x)) None ≡ x
+        queued None = refl
+        queued (Some x) = refl
 
     watch_valid : watch_ok last W B ≡ true
     unfolding watch_ok
@@ -272,16 +272,16 @@ module _ (last : ℕ) (s : Session) (good : SessionSound last s) where
         and_both _ _ c (and_both _ _ a (and_both _ _ t (and_both _ _ p (and_both _ _ n m))))
       where
         positive : (x : Option (List Args)) → QueueHolds x → all_positive (map length (queue_of x)) ≡ true
-        positive none h = unfold all_positive in refl
-        positive (some x) h = h.positive
+        positive None h = unfold all_positive in refl
+        positive (Some x) h = h.positive
 
         names : (x : Option (List Args)) → QueueHolds x → all_queueable (queue_of x) ≡ true
-        names none h = unfold all_queueable in refl
-        names (some x) h = h.names
+        names None h = unfold all_queueable in refl
+        names (Some x) h = h.names
 
         inside : (x : Option (List Args)) → cond (multi_of x) true (eqb (length (queue_of x)) 0) ≡ true
-        inside none = refl
-        inside (some x) = refl
+        inside None = refl
+        inside (Some x) = refl
 
     pub session_valid : session_ok last W B ≡ true
     unfolding session_ok

@@ -4,7 +4,7 @@ use Prim.Native.Nat.{ℕ, ◌+◌}
 use native.Mathlib.Omega.{arith}
 use mathlib.Core.Bool.{Bool, true, false, cond, not, ◌&&◌, false≢true}
 use mathlib.Core.List.{List, [], ◌∷◌, ◌++◌, map}
-use mathlib.Core.Option.{Option, none, some}
+use Rattle.std.specs.Prelude.{Option, None, Some}
 use mathlib.Core.Path.{◌≡◌, refl, ap, ◌∙◌}
 use lib.Dec.{leb}
 use lib.IntN.{pos}
@@ -46,8 +46,8 @@ short_reply room used b d st s e = rw e
 
 -- the key in front, if it is live
 abbrev pub if_live : Option Value → Key → List Key → List Key
-if_live none k ks = ks
-if_live (some v) k ks = k ∷ ks
+if_live None k ks = ks
+if_live (Some v) k ks = k ∷ ks
 
 -- the live keys among these, each as often as it stands there
 unfoldable pub living_of : Reader → List Key → List Key
@@ -60,8 +60,8 @@ living_count r [] = refl
 living_count r (k ∷ ks) = go (r k) (living_count r ks)
   where
     go : (v : Option Value) → live r ks ≡ length (living_of r ks) → live_one v + live r ks ≡ length (if_live v k (living_of r ks))
-    go none e = omega (arith, e)
-    go (some x) e = omega (arith, e)
+    go None e = omega (arith, e)
+    go (Some x) e = omega (arith, e)
 
 -- DEL and EXISTS count the live keys; DEL writes a tombstone for each argument
 pub del_counts : (r : Reader) (ks : List Key) → run r (DEL ks) ≡ (Integer (pos (length (living_of r ks))), map tombstone ks)
@@ -94,7 +94,7 @@ pub enqueue_leaves : (q : List Args) (a : Args) (st : Store) (s : Session) → (
 unfolding enqueue
 enqueue_leaves q a st s = go (queue_fits (q ++ a ∷ []))
   where
-    go : (b : Bool) → (cond b (says queued_reply st (record { queue = some (q ++ a ∷ []); failed = s.failed; watch = s.watch })) (returns 4 st (marked s))).store ≡ st
+    go : (b : Bool) → (cond b (says queued_reply st (record { queue = Some (q ++ a ∷ []); failed = s.failed; watch = s.watch })) (returns 4 st (marked s))).store ≡ st
     go true = refl
     go false = refl
 

@@ -1,7 +1,7 @@
 -- Laws of arguments by their places. Assumes nothing.
 use mathlib.Core.Path.{◌≡◌, refl, sym, ap, ◌∙◌}
 use mathlib.Core.List.{List, [], ◌∷◌, ◌++◌, map}
-use mathlib.Core.Option.{some}
+use Rattle.std.specs.Prelude.{Some}
 use Prim.Native.Nat.{ℕ, zero, suc, ◌+◌, ◌-◌, ◌*◌, ◌<◌, ◌≤◌}
 use native.Mathlib.Nat.{zero-add, add-zero, add-suc, suc-add, add_assoc}
 use native.Mathlib.Numerals.{add-one, add-two}
@@ -114,11 +114,11 @@ tombstones_size {p} {s} q k (suc n) h =
     λ i. (z ∙ argument_long p s k (q.inside k (omega arith))) i + tombstones_size q (suc k) n (omega arith) i
 
 -- PAIRS of the arguments: the first, and those behind it
-pub pairs_next : (p : List ℕ) (s : Bytes) (i n m : ℕ) → n ≡ m + 2 → pairs_at i n p s ≡ (argument_at i p s, some (argument_at (i + 1) p s)) ∷ pairs_at (i + 2) m p s
+pub pairs_next : (p : List ℕ) (s : Bytes) (i n m : ℕ) → n ≡ m + 2 → pairs_at i n p s ≡ (argument_at i p s, Some (argument_at (i + 1) p s)) ∷ pairs_at (i + 2) m p s
 unfolding pairs_at arguments_at pairs_of
 pairs_next p s i n m e =
     ap (λ (x : ℕ). map put (pairs_of (arguments_at i x p s))) (e ∙ add-two m)
-    ∙ (λ z. (argument_at i p s, some (argument_at (sym (add-one i) z) p s)) ∷ map put (pairs_of (arguments_at (sym (add-two i) z) m p s)))
+    ∙ (λ z. (argument_at i p s, Some (argument_at (sym (add-one i) z) p s)) ∷ map put (pairs_of (arguments_at (sym (add-two i) z) m p s)))
 
 pub pairs_end : (p : List ℕ) (s : Bytes) (i n : ℕ) → n ≤ 1 → pairs_at i n p s ≡ []
 unfolding pairs_at arguments_at pairs_of

@@ -4,7 +4,7 @@ use native.Mathlib.Omega.{arith}
 use mathlib.Core.Logic.{◌⊎◌, inl, inr}
 use mathlib.Core.List.{List, [], ◌∷◌, ◌++◌, map}
 use mathlib.Core.Bool.{Bool, true, false, cond, ◌&&◌, false≢true}
-use mathlib.Core.Option.{Option, none, some}
+use Rattle.std.specs.Prelude.{Option, None, Some}
 use mathlib.Core.Path.{◌≡◌, refl, sym, ap, ◌∙◌}
 use lib.Dec.{leb}
 use lib.ListN.{length, length-map}
@@ -41,8 +41,8 @@ pub record QueueSound (q : List Args) : Type 0 where
   pub names : all_queueable q ≡ true
 
 abbrev pub QueueHolds : Option (List Args) → Type 0
-QueueHolds none = Unit {0}
-QueueHolds (some q) = QueueSound q
+QueueHolds None = Unit {0}
+QueueHolds (Some q) = QueueSound q
 
 pub record SessionSound (last : ℕ) (s : Session) : Type 0 where
   pub watch : WatchSound last s.watch
@@ -187,7 +187,7 @@ module _ (st : Store) (s : Session) (sound : Sound st) (good : SessionSound st.l
       full = record { store = stays; session = marked_sound; watch = same; numbers = (omega arith, omega arith, refl, inl refl, refl, refl) }
 
       go : (a : Bool) → leb (length longer) 64 ≡ a → (b : Bool) → leb (total (map length longer)) 512 ≡ b → (c : Bool) → leb (total (map length (concat longer))) 8192 ≡ c
-          → Kept st s (cond (a && b && c) (says queued_reply st (record { queue = some longer; failed = s.failed; watch = s.watch })) (returns 4 st (marked s)))
+          → Kept st s (cond (a && b && c) (says queued_reply st (record { queue = Some longer; failed = s.failed; watch = s.watch })) (returns 4 st (marked s)))
       go true p true r true t =
           says_kept queued_reply _ (record {
             watch = good.watch;
@@ -299,7 +299,7 @@ module _ (st : Store) (s : Session) (sound : Sound st) (good : SessionSound st.l
       go true p = rw (execute_failed q st s p) (says_kept st s sound good exec_abort clear (clear_sound st.last) (watch_none st s.watch))
       go false p = rw (execute_ends q st s p) (ends_kept (ran_by q st) (writes_by q st) _ refl)
 
-  outside_kept : (x : Bytes) (xs : Args) (c : Control) → control_of (row_of x).name ≡ c → s.queue ≡ none → Kept st s (outside_multi c (row_of x) (x ∷ xs) st s)
+  outside_kept : (x : Bytes) (xs : Args) (c : Control) → control_of (row_of x).name ≡ c → s.queue ≡ None → Kept st s (outside_multi c (row_of x) (x ∷ xs) st s)
   unfolding outside_multi
   outside_kept x xs MULTI e n = says_kept st s sound good ok _ (record { watch = good.watch; queue = record { counted = omega arith; arguments = unfold total in omega arith; sized = unfold total concat in omega arith; positive = unfold all_positive in refl; names = unfold all_queueable in refl } }) (watch_same st s good)
   outside_kept x xs EXEC e n = same_kept st s sound good _
@@ -332,5 +332,5 @@ module _ (st : Store) (s : Session) (sound : Sound st) (good : SessionSound st.l
   respond_kept x xs = go s.queue refl good.queue
     where
       go : (q : Option (List Args)) → s.queue ≡ q → QueueHolds q → Kept st s (respond_by q (row_of x) (x ∷ xs) st s)
-      go none e g = outside_kept x xs (control_of (row_of x).name) refl e
-      go (some q) e g = inside_kept x xs q (control_of (row_of x).name) g
+      go None e g = outside_kept x xs (control_of (row_of x).name) refl e
+      go (Some q) e g = inside_kept x xs q (control_of (row_of x).name) g

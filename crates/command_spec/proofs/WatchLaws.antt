@@ -3,12 +3,10 @@ use Prim.Native.Nat.{ℕ, ◌≤◌}
 use native.Mathlib.Omega.{arith}
 use mathlib.Core.List.{List, [], ◌∷◌}
 use mathlib.Core.Bool.{Bool, true, false, cond, ◌||◌, ◌&&◌, false≢true, and-false, or-true}
-use mathlib.Core.Option.{Option, none, some}
+use Rattle.std.specs.Prelude.{Option, None, Some}
 use mathlib.Core.Path.{◌≡◌, refl, sym, ap, ◌∙◌}
 use lib.Dec.{leb}
 use borrow.Author.Tests.{leb-true, le-leb}
-use Rattle.base_key.specs.declared.Order.{Order}
-use Rattle.base_key.specs.declared.Order.TheVariants.{Less, Equal, Greater}
 use Rattle.base_key.specs.Keys.{Key, compare_keys, key_below, same_key, is_less}
 use Rattle.base_key.proofs.Keys.{compare_equal, key_swap, less_is, same_refl, same_is}
 use Rattle.base_key.proofs.Bytes.{and_left, and_right, and_both, both_parts, or_none, or_twice, or_swap, or_cases}
@@ -18,6 +16,8 @@ use Rattle.store_memtable.specs.Versions.{Version, moved}
 use Rattle.group_spec.specs.Group.{any_key, among}
 use Rattle.command_spec.specs.Session.{Watching, watched_keys, watched_sequences, add_key, add_keys, any_moved}
 use Rattle.command_spec.specs.Sessions.{ascending, ascending_after, none_above}
+use Rattle.std.specs.declared.cmp.Ordering.TheVariants.{Less, Equal, Greater}
+use Rattle.std.specs.declared.cmp.Ordering.{Ordering}
 
 below : (a b : Key) → compare_keys a b ≡ Less → key_below a b ≡ true
 unfolding key_below
@@ -29,7 +29,7 @@ module _ (n : ℕ) where
   after_add j k [] p o = and_both _ _ p refl
   after_add j k (e ∷ w) p o = go (compare_keys k e.0) refl (λ h. after_add e.0 k w h (and_right (key_below j e.0) (ascending_after e.0 (watched_keys w)) o))
     where
-      go : (c : Order) → compare_keys k e.0 ≡ c → (key_below e.0 k ≡ true → ascending_after e.0 (watched_keys (add_key n k w)) ≡ true)
+      go : (c : Ordering) → compare_keys k e.0 ≡ c → (key_below e.0 k ≡ true → ascending_after e.0 (watched_keys (add_key n k w)) ≡ true)
           → ascending_after j (watched_keys (add_key n k (e ∷ w))) ≡ true
       go Less q ih = rw (q, add_key) (and_both _ _ p (and_both _ _ (below k e.0 q) (and_right (key_below j e.0) (ascending_after e.0 (watched_keys w)) o)))
       go Equal q ih = rw (q, add_key) o
@@ -40,7 +40,7 @@ module _ (n : ℕ) where
   ascending_add k [] o = refl
   ascending_add k (e ∷ w) o = go (compare_keys k e.0) refl
     where
-      go : (c : Order) → compare_keys k e.0 ≡ c → ascending (watched_keys (add_key n k (e ∷ w))) ≡ true
+      go : (c : Ordering) → compare_keys k e.0 ≡ c → ascending (watched_keys (add_key n k (e ∷ w))) ≡ true
       go Less q = rw (q, add_key) (and_both _ _ (below k e.0 q) o)
       go Equal q = rw (q, add_key) o
       go Greater q = rw (q, add_key) (after_add e.0 k w (below e.0 k (key_swap k e.0 q)) o)
@@ -56,7 +56,7 @@ module _ (n : ℕ) where
   among_add k [] x = refl
   among_add k (e ∷ w) x = go (compare_keys k e.0) refl (among_add k w x)
     where
-      go : (c : Order) → compare_keys k e.0 ≡ c → among (watched_keys (add_key n k w)) x ≡ (same_key k x || among (watched_keys w) x)
+      go : (c : Ordering) → compare_keys k e.0 ≡ c → among (watched_keys (add_key n k w)) x ≡ (same_key k x || among (watched_keys w) x)
           → among (watched_keys (add_key n k (e ∷ w))) x ≡ (same_key k x || (same_key e.0 x || among (watched_keys w) x))
       go Less q ih = rw (q, add_key)
       go Equal q ih = rw (q, add_key) (rw (compare_equal k e.0 q) (or_twice (same_key e.0 x) (among (watched_keys w) x)))
@@ -74,33 +74,33 @@ module _ (n : ℕ) where
 
   -- FROM WHICH SEQUENCE ON a key is watched: one that is there keeps its own, one that is new has this one
   abbrev pub carried : Option ℕ → Bool → Option ℕ
-  carried (some m) new = some m
-  carried none new = cond new (some n) none
+  carried (Some m) new = Some m
+  carried None new = cond new (Some n) None
 
   carried_old : (v : Option ℕ) → carried v false ≡ v
-  carried_old (some m) = refl
-  carried_old none = refl
+  carried_old (Some m) = refl
+  carried_old None = refl
 
   add_carries : (k : Key) (w : Watching) → Ascending w → (x : Key) → find (add_key n k w) x ≡ carried (find w x) (same_key k x)
   unfolding add_key find
   add_carries k [] s x = refl
   add_carries k (e ∷ w) s x = go (compare_keys k e.0) refl (add_carries k w s.1 x)
     where
-      before : compare_keys k e.0 ≡ Less → (b : Bool) → same_key k x ≡ b → cond b (some n) (find (e ∷ w) x) ≡ carried (find (e ∷ w) x) b
+      before : compare_keys k e.0 ≡ Less → (b : Bool) → same_key k x ≡ b → cond b (Some n) (find (e ∷ w) x) ≡ carried (find (e ∷ w) x) b
       before q true p =
-          let a : find (e ∷ w) k ≡ none = find_above k (e ∷ w) (q, above_trans k e.0 w q s.0) in
+          let a : find (e ∷ w) k ≡ None = find_above k (e ∷ w) (q, above_trans k e.0 w q s.0) in
           sym (ap (λ (v : Option ℕ). carried v true) (ap (find (e ∷ w)) (sym (same_is k x p)) ∙ a))
       before q false p = sym (carried_old (find (e ∷ w) x))
 
-      there : k ≡ e.0 → (b : Bool) → same_key e.0 x ≡ b → cond b (some e.1) (find w x) ≡ carried (cond b (some e.1) (find w x)) b
+      there : k ≡ e.0 → (b : Bool) → same_key e.0 x ≡ b → cond b (Some e.1) (find w x) ≡ carried (cond b (Some e.1) (find w x)) b
       there q true p = refl
       there q false p = sym (carried_old (find w x))
 
-      behind : (b : Bool) → cond b (some e.1) (carried (find w x) (same_key k x)) ≡ carried (cond b (some e.1) (find w x)) (same_key k x)
+      behind : (b : Bool) → cond b (Some e.1) (carried (find w x) (same_key k x)) ≡ carried (cond b (Some e.1) (find w x)) (same_key k x)
       behind true = refl
       behind false = refl
 
-      go : (c : Order) → compare_keys k e.0 ≡ c → find (add_key n k w) x ≡ carried (find w x) (same_key k x) → find (add_key n k (e ∷ w)) x ≡ carried (find (e ∷ w) x) (same_key k x)
+      go : (c : Ordering) → compare_keys k e.0 ≡ c → find (add_key n k w) x ≡ carried (find w x) (same_key k x) → find (add_key n k (e ∷ w)) x ≡ carried (find (e ∷ w) x) (same_key k x)
       go Less q ih = rw (q, add_key) (before q (same_key k x) refl)
       go Equal q ih = rw (q, add_key) (rw (compare_equal k e.0 q) (there (compare_equal k e.0 q) (same_key e.0 x) refl))
       go Greater q ih = rw (q, add_key) (rw ih (behind (same_key e.0 x)))
@@ -125,9 +125,9 @@ module _ (n : ℕ) where
       ∙ go (find w x) (same_key k x) (among ks x)
     where
       go : (v : Option ℕ) (a b : Bool) → carried (carried v a) b ≡ carried v (a || b)
-      go (some m) a b = refl
-      go none true b = refl
-      go none false b = refl
+      go (Some m) a b = refl
+      go None true b = refl
+      go None false b = refl
 
   -- no sequence above the last
   none_add : (k : Key) (w : Watching) → none_above n (watched_sequences w) ≡ true → none_above n (watched_sequences (add_key n k w)) ≡ true
@@ -135,7 +135,7 @@ module _ (n : ℕ) where
   none_add k [] h = and_both _ _ (le-leb n n (omega arith)) refl
   none_add k (e ∷ w) h = go (compare_keys k e.0) refl (none_add k w (and_right (leb e.1 n) (none_above n (watched_sequences w)) h))
     where
-      go : (c : Order) → compare_keys k e.0 ≡ c → none_above n (watched_sequences (add_key n k w)) ≡ true → none_above n (watched_sequences (add_key n k (e ∷ w))) ≡ true
+      go : (c : Ordering) → compare_keys k e.0 ≡ c → none_above n (watched_sequences (add_key n k w)) ≡ true → none_above n (watched_sequences (add_key n k (e ∷ w))) ≡ true
       go Less q ih = rw (q, add_key) (and_both _ _ (le-leb n n (omega arith)) h)
       go Equal q ih = rw (q, add_key) h
       go Greater q ih = rw (q, add_key) (and_both _ _ (and_left (leb e.1 n) (none_above n (watched_sequences w)) h) ih)
@@ -194,7 +194,7 @@ module _ (vs : List Version) where
     moved_add k [] x = rw (calm x, and-false (same_key k x))
     moved_add k (e ∷ w) x = go (compare_keys k e.0) refl (moved_add k w x)
       where
-        go : (c : Order) → compare_keys k e.0 ≡ c → moved_by vs (add_key n k w) x ≡ moved_by vs w x → moved_by vs (add_key n k (e ∷ w)) x ≡ moved_by vs (e ∷ w) x
+        go : (c : Ordering) → compare_keys k e.0 ≡ c → moved_by vs (add_key n k w) x ≡ moved_by vs w x → moved_by vs (add_key n k (e ∷ w)) x ≡ moved_by vs (e ∷ w) x
         go Less q ih = rw (q, add_key) (rw (calm x, and-false (same_key k x)))
         go Equal q ih = rw (q, add_key)
         go Greater q ih = rw (q, add_key) (rw ih)

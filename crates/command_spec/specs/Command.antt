@@ -1,11 +1,9 @@
 -- What a command does: a reply and writes, by a reader alone (document 01, section 7; `execute`, `incr`, `scan` of src/server.rs).
 -- A direct command, EXEC and posting share `run` and `answer_listing`.
 use Rattle.std.specs.Prelude.{ℕ, zero, suc, ◌+◌, Bool, true, false, cond, not, ◌&&◌, List, [], ◌∷◌, ◌++◌, map, ltb, eqb, ℤ, pos, negsuc, ◌+ℤ◌, length, get_or, take, drop}
-use Rattle.std.proofs.Math.Option.{Option, none, some}
+use Rattle.std.specs.Prelude.{Option, None, Some}
 use Rattle.base_key.specs.Bytes.{Bytes, bytes}
 use Rattle.base_key.specs.Keys.{Key, key_below}
-use Rattle.base_number.specs.declared.Number.{Number}
-use Rattle.base_number.specs.declared.Number.TheVariants.{Int, Bad}
 use Rattle.base_number.specs.Decimal.{digits, decimal}
 use Rattle.base_number.specs.Number.{number_of, int_arg}
 use Rattle.resp_spec.specs.Utf8.{lossy}
@@ -79,22 +77,22 @@ pairs_of (k ∷ []) = []
 pairs_of (k ∷ v ∷ a) = (k, v) ∷ pairs_of a
 
 -- INCRBY, by its amount
-abbrev pub count_by : Key → Number → Command
-count_by k (Int by) = COUNT k by
-count_by k Bad = FIXED not_integer
+abbrev pub count_by : Key → Option ℤ → Command
+count_by k (Some by) = COUNT k by
+count_by k None = FIXED not_integer
 
 -- a number from 0 on
-abbrev pub natural : Number → Option ℕ
-natural (Int (pos n)) = some n
-natural (Int (negsuc n)) = none
-natural Bad = none
+abbrev pub natural : Option ℤ → Option ℕ
+natural (Some (pos n)) = Some n
+natural (Some (negsuc n)) = None
+natural None = None
 
 -- a number from 1 on
-abbrev pub positive : Number → Option ℕ
-positive (Int (pos zero)) = none
-positive (Int (pos (suc n))) = some (suc n)
-positive (Int (negsuc n)) = none
-positive Bad = none
+abbrev pub positive : Option ℤ → Option ℕ
+positive (Some (pos zero)) = None
+positive (Some (pos (suc n))) = Some (suc n)
+positive (Some (negsuc n)) = None
+positive None = None
 
 -- SCAN's options, in turn; without them the pattern is `*` and the count 10
 unfoldable pub scan_options : ℕ → Bytes → ℕ → Args → Executed
@@ -103,24 +101,24 @@ scan_options from pattern most (o ∷ []) = fixed syntax_error
 scan_options from pattern most (o ∷ v ∷ a) = elim (same_name o (bytes "MATCH")) [
   | true ↦ scan_options from v most a
   | false ↦ elim (same_name o (bytes "COUNT")) [
-    | true ↦ elim (positive (int_arg v)) [ none ↦ fixed not_integer | some n ↦ scan_options from pattern n a ]
+    | true ↦ elim (positive (int_arg v)) [ None ↦ fixed not_integer | Some n ↦ scan_options from pattern n a ]
     | false ↦ fixed syntax_error
   ]
 ]
 
 -- SCAN, by its cursor
 abbrev pub scan_from : Option ℕ → Args → Executed
-scan_from none a = fixed (err (bytes "invalid cursor"))
-scan_from (some from) a = scan_options from (bytes "*") 10 a
+scan_from None a = fixed (err (bytes "invalid cursor"))
+scan_from (Some from) a = scan_options from (bytes "*") 10 a
 
 -- RANGE, by its limit
 abbrev pub range_limit : Key → Key → Option ℕ → Executed
-range_limit start end none = fixed (err (bytes "LIMIT must be a non-negative integer"))
-range_limit start end (some n) = lists (RANGE start end (some n))
+range_limit start end None = fixed (err (bytes "LIMIT must be a non-negative integer"))
+range_limit start end (Some n) = lists (RANGE start end (Some n))
 
 -- RANGE's option
 unfoldable pub range_options : Key → Key → Args → Executed
-range_options start end [] = lists (RANGE start end none)
+range_options start end [] = lists (RANGE start end None)
 range_options start end (o ∷ []) = fixed syntax_error
 range_options start end (o ∷ v ∷ []) = cond (same_name o (bytes "LIMIT")) (range_limit start end (natural (int_arg v))) (fixed syntax_error)
 range_options start end (o ∷ v ∷ x ∷ a) = fixed syntax_error
@@ -174,8 +172,8 @@ Effect = Reply × List Write
 
 -- 1 for a live key
 abbrev pub live_one : Option Value → ℕ
-live_one none = 0
-live_one (some v) = 1
+live_one None = 0
+live_one (Some v) = 1
 
 -- how many of the keys are live, a repeated one counted each time
 unfoldable pub live : Reader → List Key → ℕ
@@ -183,32 +181,32 @@ live r [] = 0
 live r (k ∷ ks) = live_one (r k) + live r ks
 
 -- the number that a counter holds; an absent key holds 0
-abbrev pub held : Option Value → Number
-held none = Int (pos 0)
-held (some text) = int_arg text
+abbrev pub held : Option Value → Option ℤ
+held None = Some (pos 0)
+held (Some text) = int_arg text
 
 -- a sum beyond i64 is an error and puts nothing
-unfoldable pub summed : Key → Number → Effect
-summed k Bad = (overflow, [])
-summed k (Int n) = (Integer n, (k, some (decimal n)) ∷ [])
+unfoldable pub summed : Key → Option ℤ → Effect
+summed k None = (overflow, [])
+summed k (Some n) = (Integer n, (k, Some (decimal n)) ∷ [])
 
 -- a counter raised by an amount
-unfoldable pub raised : Key → ℤ → Number → Effect
-raised k by Bad = (not_integer, [])
-raised k by (Int n) = summed k (number_of (n +ℤ by))
+unfoldable pub raised : Key → ℤ → Option ℤ → Effect
+raised k by None = (not_integer, [])
+raised k by (Some n) = summed k (number_of (n +ℤ by))
 
 -- a tombstone for the key
 abbrev pub tombstone : Key → Write
-tombstone k = (k, none)
+tombstone k = (k, None)
 
 -- a value for the key
 abbrev pub put : Entry Value → Write
-put e = (e.0, some e.1)
+put e = (e.0, Some e.1)
 
 -- reply and writes of a command
 unfoldable pub run : Reader → Command → Effect
 run r (GET k) = (bulk_or (r k), [])
-run r (SET k x) = (ok, (k, some x) ∷ [])
+run r (SET k x) = (ok, (k, Some x) ∷ [])
 run r (DEL ks) = (Integer (pos (live r ks)), map tombstone ks)
 run r (EXISTS ks) = (Integer (pos (live r ks)), [])
 run r (MGET ks) = (array (map (λ k. bulk_or (r k)) ks), [])
@@ -237,8 +235,8 @@ key_in_range start end k = not (key_below k start) && key_below k end
 
 -- at most n entries
 abbrev pub limited : Option ℕ → Table → Table
-limited none t = t
-limited (some n) t = take n t
+limited None t = t
+limited (Some n) t = take n t
 
 -- keys and values in turn
 unfoldable pub pair_replies : Table → List Reply

@@ -1,6 +1,6 @@
 -- Glob patterns (document 01, section 7): `*` any run, `?` any one byte, `\x` the byte x.
 use Rattle.std.specs.Prelude.{ℕ, Bool, true, false, cond, not, List, [], ◌∷◌, eqb}
-use Rattle.std.proofs.Math.Option.{Option, none, some}
+use Rattle.std.specs.Prelude.{Option, None, Some}
 use Rattle.base_key.specs.Bytes.{Bytes}
 use Rattle.command_spec.specs.declared.pattern.Compared.{Compared}
 use Rattle.command_spec.specs.declared.pattern.Compared.TheVariants.{Matches, Differs, DiffersByTheEnd}
@@ -44,20 +44,20 @@ glob pattern name = matches (tokens pattern) name
 -- WHAT A NO SAYS (document 02, R-4).
 -- the first if it is there, else the second
 abbrev pub or_else : Option (List Token) → Option (List Token) → Option (List Token)
-or_else (some t) other = some t
-or_else none other = other
+or_else (Some t) other = Some t
+or_else None other = other
 
 -- what follows the last star, where there is one
 unfoldable pub after_last_star : List Token → Option (List Token)
-after_last_star [] = none
+after_last_star [] = None
 after_last_star (literal c ∷ p) = after_last_star p
 after_last_star (one ∷ p) = after_last_star p
-after_last_star (star ∷ p) = or_else (after_last_star p) (some p)
+after_last_star (star ∷ p) = or_else (after_last_star p) (Some p)
 
 -- there is a star, and no end of the name matches what follows the last one
 unfoldable pub end_missing : Option (List Token) → Bytes → Bool
-end_missing none name = false
-end_missing (some t) name = not (some_tail (matches t) name)
+end_missing None name = false
+end_missing (Some t) name = not (some_tail (matches t) name)
 
 abbrev pub told : Bool → Bool → Compared
 told true missing = Matches

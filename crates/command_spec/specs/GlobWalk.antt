@@ -1,6 +1,6 @@
 -- What the steps of the code along a glob pattern answer, in terms of `Glob.antt`.
 use Rattle.std.specs.Prelude.{ℕ, zero, suc, ◌-◌, ◌≤◌, ◌<◌, ◌≡◌, true, false, List, [], ◌∷◌, length, drop}
-use Rattle.std.proofs.Math.Option.{Option, none, some}
+use Rattle.std.specs.Prelude.{Option, None, Some}
 use Rattle.base_key.specs.Bytes.{Bytes}
 use Rattle.command_spec.specs.declared.pattern.Step.{Step}
 use Rattle.command_spec.specs.declared.pattern.Step.TheVariants as step
@@ -41,8 +41,8 @@ Walked pattern name (walk.Star next used) = AtStar pattern name next used
 
 -- what follows a star, by the place behind it; 0 is no such place
 unfoldable pub behind_star : Bytes → ℕ → Option (List Token)
-behind_star pattern zero = none
-behind_star pattern (suc n) = some (tokens (drop (suc n) pattern))
+behind_star pattern zero = None
+behind_star pattern (suc n) = Some (tokens (drop (suc n) pattern))
 
 -- from `behind` on the pattern has the tokens that follow its last star, `count` of them; `behind` is 0 without a star
 pub record LastStar (pattern : Bytes) (behind count : ℕ) : Type 0 where

@@ -1,6 +1,6 @@
 -- A valid session by its numbers, and what a change leaves of its words.
 use Rattle.std.specs.Prelude.{ℕ, ◌≤◌, ◌≡◌, true, false, List, [], length, get_or}
-use Rattle.std.proofs.Math.Option.{some}
+use Rattle.std.specs.Prelude.{Some}
 use Rattle.base_key.specs.Bytes.{Bytes, total}
 use Rattle.command_spec.specs.Session.{Session, clear}
 use Rattle.command_spec.specs.Sessions.{key_lengths, argument_counts, argument_lengths, keys_in, ascending, session_from, session_words}
@@ -25,7 +25,7 @@ cleared s = clear
 
 -- MULTI
 abbrev pub opened : Session → Session
-opened s = record { queue = some []; failed = false; watch = s.watch }
+opened s = record { queue = Some []; failed = false; watch = s.watch }
 
 -- UNWATCH
 abbrev pub unwatched : Session → Session

@@ -1,6 +1,6 @@
 -- The commands: names, argument counts, and which may be queued (document 01, section 7).
 use Rattle.std.specs.Prelude.{ℕ, ◌%◌, Bool, true, false, cond, not, ◌&&◌, ◌||◌, List, [], ◌∷◌, ◌++◌, map, leb, ltb, eqb, length}
-use Rattle.std.proofs.Math.Option.{Option, none, some}
+use Rattle.std.specs.Prelude.{Option, None, Some}
 use Rattle.base_key.specs.Bytes.{Bytes, bytes, same_bytes}
 use Rattle.resp_spec.specs.Letters.{upper, lower}
 use Rattle.resp_spec.specs.Reply.{Reply, err}
@@ -30,27 +30,27 @@ row t n least most pairs queueable = record { text = t; name = n; least = least;
 -- the table of commands
 unfoldable pub rows : List Row
 rows =
-    row (bytes "GET") (Queueable Get) 1 (some 1) false true
-    ∷ row (bytes "SET") (Queueable Set) 2 none false true
-    ∷ row (bytes "DEL") (Queueable Del) 1 none false true
-    ∷ row (bytes "EXISTS") (Queueable Exists) 1 none false true
-    ∷ row (bytes "MGET") (Queueable Mget) 1 none false true
-    ∷ row (bytes "MSET") (Queueable Mset) 2 none true true
-    ∷ row (bytes "INCR") (Queueable Incr) 1 (some 1) false true
-    ∷ row (bytes "INCRBY") (Queueable Incrby) 2 (some 2) false true
-    ∷ row (bytes "DECR") (Queueable Decr) 1 (some 1) false true
-    ∷ row (bytes "PING") (Queueable Ping) 0 (some 1) false true
-    ∷ row (bytes "ECHO") (Queueable Echo) 1 (some 1) false true
-    ∷ row (bytes "DBSIZE") Dbsize 0 (some 0) false false
-    ∷ row (bytes "KEYS") Keys 1 (some 1) false false
-    ∷ row (bytes "SCAN") Scan 1 none false false
-    ∷ row (bytes "RANGE") Range 2 none false false
-    ∷ row (bytes "MULTI") Multi 0 none false false
-    ∷ row (bytes "EXEC") Exec 0 none false false
-    ∷ row (bytes "DISCARD") Discard 0 none false false
-    ∷ row (bytes "WATCH") Watch 1 none false false
-    ∷ row (bytes "UNWATCH") Unwatch 0 none false false
-    ∷ row (bytes "QUIT") Quit 0 none false false
+    row (bytes "GET") (Queueable Get) 1 (Some 1) false true
+    ∷ row (bytes "SET") (Queueable Set) 2 None false true
+    ∷ row (bytes "DEL") (Queueable Del) 1 None false true
+    ∷ row (bytes "EXISTS") (Queueable Exists) 1 None false true
+    ∷ row (bytes "MGET") (Queueable Mget) 1 None false true
+    ∷ row (bytes "MSET") (Queueable Mset) 2 None true true
+    ∷ row (bytes "INCR") (Queueable Incr) 1 (Some 1) false true
+    ∷ row (bytes "INCRBY") (Queueable Incrby) 2 (Some 2) false true
+    ∷ row (bytes "DECR") (Queueable Decr) 1 (Some 1) false true
+    ∷ row (bytes "PING") (Queueable Ping) 0 (Some 1) false true
+    ∷ row (bytes "ECHO") (Queueable Echo) 1 (Some 1) false true
+    ∷ row (bytes "DBSIZE") Dbsize 0 (Some 0) false false
+    ∷ row (bytes "KEYS") Keys 1 (Some 1) false false
+    ∷ row (bytes "SCAN") Scan 1 None false false
+    ∷ row (bytes "RANGE") Range 2 None false false
+    ∷ row (bytes "MULTI") Multi 0 None false false
+    ∷ row (bytes "EXEC") Exec 0 None false false
+    ∷ row (bytes "DISCARD") Discard 0 None false false
+    ∷ row (bytes "WATCH") Watch 1 None false false
+    ∷ row (bytes "UNWATCH") Unwatch 0 None false false
+    ∷ row (bytes "QUIT") Quit 0 None false false
     ∷ []
 
 -- the names of the rows that may be queued
@@ -60,7 +60,7 @@ queueable_texts (r ∷ rs) = cond r.queueable (r.text ∷ queueable_texts rs) (q
 
 -- any other name
 abbrev pub unknown_row : Row
-unknown_row = row [] Unknown 0 none false false
+unknown_row = row [] Unknown 0 None false false
 
 -- names match in any letter case
 unfoldable pub same_name : Bytes → Bytes → Bool
@@ -87,8 +87,8 @@ arguments (n ∷ a) = a
 
 -- at most so many
 abbrev pub not_above : ℕ → Option ℕ → Bool
-not_above n none = true
-not_above n (some most) = leb n most
+not_above n None = true
+not_above n (Some most) = leb n most
 
 -- the right argument count
 unfoldable pub count_right : Row → ℕ → Bool

@@ -1,6 +1,6 @@
 -- Arguments that are given as parts of lent bytes: argument k has its start in word 2 k of a table and its length in word 2 k + 1.
 use Rattle.std.specs.Prelude.{ℕ, zero, suc, ◌+◌, ◌*◌, ◌<◌, ◌≤◌, ◌≡◌, Bool, List, [], ◌∷◌, ◌++◌, map, length, get_or}
-use Rattle.std.proofs.Math.Option.{some}
+use Rattle.std.specs.Prelude.{Some}
 use Rattle.base_key.specs.Bytes.{Bytes, part, total}
 use Rattle.store_memtable.specs.Table.{Write}
 use Rattle.command_spec.specs.Names.{Args}
@@ -48,7 +48,7 @@ pub record Takes (w places : List ℕ) (count : ℕ) (r : Bool) : Type 0 where
 
 -- a session with the command behind its queue
 abbrev pub queuing : List Args → Session → Session
-queuing q s = record { queue = some q; failed = s.failed; watch = s.watch }
+queuing q s = record { queue = Some q; failed = s.failed; watch = s.watch }
 
 -- the command has room behind the queue
 pub record HasRoom (w places : List ℕ) (count : ℕ) : Type 0 where

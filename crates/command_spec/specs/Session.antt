@@ -1,7 +1,6 @@
 -- Sessions (document 01, section 7; `Session::run` and `exec` of src/server.rs).
 use Rattle.std.specs.Prelude.{ℕ, Bool, true, false, cond, ◌&&◌, ◌||◌, List, [], ◌∷◌, ◌++◌, map, leb, length}
-use Rattle.std.proofs.Math.Option.{Option, none, some}
-use Rattle.base_key.specs.declared.Order.TheVariants.{Less, Equal, Greater}
+use Rattle.std.specs.Prelude.{Option, None, Some}
 use Rattle.base_key.specs.Bytes.{Bytes, bytes, concat, total}
 use Rattle.base_key.specs.Keys.{Key, compare_keys}
 use Rattle.resp_spec.specs.Utf8.{lossy}
@@ -15,6 +14,7 @@ use Rattle.group_spec.specs.Group.{plain, verdict_byte, is_accepted, verdict_alo
 use Rattle.command_spec.specs.Names.{Args, Row, row_of, name_word, arguments, count_right, with_options, operation_of, arity, Control, MULTI, EXEC, DISCARD, WATCH, UNWATCH, QUIT, other, control_of}
 use Rattle.resp_spec.specs.Letters.{upper}
 use Rattle.command_spec.specs.Command.{Executed, runs, lists, Effect, Ran, set_options, executed_of, command_of, run, answer_listing, run_queue}
+use Rattle.std.specs.declared.cmp.Ordering.TheVariants.{Less, Equal, Greater}
 
 -- a watch: the watched keys, ascending, each with the last sequence at its first WATCH
 abbrev pub Watching : Type 0
@@ -36,7 +36,7 @@ pub record Session : Type 0 where
 
 -- a clear session: outside MULTI, unmarked, without watch
 abbrev pub clear : Session
-clear = record { queue = none; failed = false; watch = [] }
+clear = record { queue = None; failed = false; watch = [] }
 
 -- what a request gives: a number, or a reply
 pub data Result : Type 0 where
@@ -89,7 +89,7 @@ watching ks st s =
 
 -- a request outside MULTI
 unfoldable pub outside_multi : Control → Row → Args → Store → Session → Done
-outside_multi MULTI r a st s = says ok st (record { queue = some []; failed = false; watch = s.watch })
+outside_multi MULTI r a st s = says ok st (record { queue = Some []; failed = false; watch = s.watch })
 outside_multi EXEC r a st s = says (err (bytes "EXEC without MULTI")) st s
 outside_multi DISCARD r a st s = says (err (bytes "DISCARD without MULTI")) st s
 outside_multi WATCH r a st s = cond (count_right r (length (arguments a))) (watching (arguments a) st s) (says (arity r) st s)
@@ -113,7 +113,7 @@ marked s = record { queue = s.queue; failed = true; watch = s.watch }
 unfoldable pub enqueue : List Args → Args → Store → Session → Done
 enqueue q a st s =
     cond (queue_fits (q ++ a ∷ []))
-    (says queued_reply st (record { queue = some (q ++ a ∷ []); failed = s.failed; watch = s.watch }))
+    (says queued_reply st (record { queue = Some (q ++ a ∷ []); failed = s.failed; watch = s.watch }))
     (returns 4 st (marked s))
 
 -- one of the eleven: a wrong argument count, and SET with options, are answered by their error, queue nothing and mark the session;
@@ -188,8 +188,8 @@ inside_multi other q r a st s = cond r.queueable (queue_up q r a st s) (says (no
 
 -- ONE REQUEST of a session, by its name and queue. QUIT answers `+OK` and clears the session, even inside MULTI.
 unfoldable pub respond_by : Option (List Args) → Row → Args → Store → Session → Done
-respond_by none r a st s = outside_multi (control_of r.name) r a st s
-respond_by (some q) r a st s = inside_multi (control_of r.name) q r a st s
+respond_by None r a st s = outside_multi (control_of r.name) r a st s
+respond_by (Some q) r a st s = inside_multi (control_of r.name) q r a st s
 
 -- a request that is not empty
 unfoldable pub respond : Args → Store → Session → Done

@@ -5,7 +5,7 @@
 --         132..644 lengths of their arguments
 --   bytes 0..2048 the watched keys, 2048..10240 the queued arguments
 use Rattle.std.specs.Prelude.{ℕ, zero, suc, ◌*◌, Bool, true, false, cond, List, [], ◌∷◌, ◌++◌, map, leb, eqb, length, get_or, take, drop}
-use Rattle.std.proofs.Math.Option.{Option, none, some}
+use Rattle.std.specs.Prelude.{Option, None, Some}
 use Rattle.base_key.specs.Bytes.{Bytes, ◌and◌, part, over_front, concat, total}
 use Rattle.base_key.specs.Keys.{Key, key_below}
 use Rattle.command_spec.specs.Names.{Args, request_queueable}
@@ -84,7 +84,7 @@ paired (k ∷ ks) (n ∷ ns) = (k, n) ∷ paired ks ns
 -- the session that the words and bytes hold
 unfoldable pub session_from : List ℕ → Bytes → Session
 session_from w b = record {
-  queue = cond (yes? (multi_word w b)) (some (queue_in w b)) none;
+  queue = cond (yes? (multi_word w b)) (Some (queue_in w b)) None;
   failed = yes? (failed_word w b);
   watch = paired (keys_in w b) (key_sequences w b);
 }
@@ -138,13 +138,13 @@ flag_word true (suc n) = suc n
 
 -- in MULTI
 abbrev pub multi_of : Option (List Args) → Bool
-multi_of none = false
-multi_of (some q) = true
+multi_of None = false
+multi_of (Some q) = true
 
 -- the queue, empty outside MULTI
 abbrev pub queue_of : Option (List Args) → List Args
-queue_of none = []
-queue_of (some q) = q
+queue_of None = []
+queue_of (Some q) = q
 
 -- the parts in front of their places; what lies behind stays
 unfoldable pub session_words : Session → List ℕ → Bytes → List ℕ

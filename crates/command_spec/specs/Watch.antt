@@ -2,12 +2,9 @@
 use Rattle.std.specs.Prelude.{ℕ, ◌≤◌, ◌≡◌, true, false, List, [], ◌∷◌, ◌++◌, map, length, take, drop, set}
 use Rattle.base_key.specs.Bytes.{Bytes, over_front, concat, total, put_at}
 use Rattle.base_key.specs.Keys.{Key}
-use Rattle.command_spec.specs.declared.watched.Spot.{Spot}
-use Rattle.command_spec.specs.declared.watched.Spot.TheVariants as spot
-use Rattle.command_spec.specs.declared.watched.Grown.{Grown}
-use Rattle.command_spec.specs.declared.watched.Grown.TheVariants as grown
 use Rattle.command_spec.specs.Session.{Watching, watched_keys, watched_sequences, Session, add_key, add_keys, watch_fits}
 use Rattle.command_spec.specs.Sessions.{split_by, paired, session_from, session_words, session_bytes}
+use Rattle.std.specs.Prelude.{Option, None, Some}
 
 -- the first `count` lengths, and the keys
 unfoldable pub keys_of : List ℕ → Bytes → ℕ → List Key
@@ -31,9 +28,9 @@ pub record SpotAt (lens : List ℕ) (text : Bytes) (count : ℕ) (name : Key) (i
 pub record ThereAt (lens : List ℕ) (text : Bytes) (count : ℕ) (name : Key) : Type 0 where
   pub is : (n : ℕ) (ns : List ℕ) → add_key n name (paired (keys_of lens text count) ns) ≡ paired (keys_of lens text count) ns
 
-abbrev pub Spotted : List ℕ → Bytes → ℕ → Key → Spot → Type 0
-Spotted lens text count name spot.There = ThereAt lens text count name
-Spotted lens text count name (spot.At i start) = SpotAt lens text count name i start
+abbrev pub Spotted : List ℕ → Bytes → ℕ → Key → Option (ℕ × ℕ) → Type 0
+Spotted lens text count name None = ThereAt lens text count name
+Spotted lens text count name (Some (i, start)) = SpotAt lens text count name i start
 
 -- these keys in the tables and the bytes, in front of what was there; n of them, u bytes
 pub record Holding (js : Watching) (lens lens' seqs seqs' : List ℕ) (text text' : Bytes) (n u : ℕ) : Type 0 where
@@ -45,9 +42,9 @@ pub record Holding (js : Watching) (lens lens' seqs seqs' : List ℕ) (text text
   pub sequences : seqs' ≡ over_front (watched_sequences js) seqs
   pub bytes : text' ≡ over_front (concat (watched_keys js)) text
 
-abbrev pub GrownTo : Watching → List ℕ → List ℕ → List ℕ → List ℕ → Bytes → Bytes → Grown → Type 0
-GrownTo js lens lens' seqs seqs' text text' grown.Full = watch_fits (watched_keys js) ≡ false
-GrownTo js lens lens' seqs seqs' text text' (grown.To n u) = Holding js lens lens' seqs seqs' text text' n u
+abbrev pub GrownTo : Watching → List ℕ → List ℕ → List ℕ → List ℕ → Bytes → Bytes → Option (ℕ × ℕ) → Type 0
+GrownTo js lens lens' seqs seqs' text text' None = watch_fits (watched_keys js) ≡ false
+GrownTo js lens lens' seqs seqs' text text' (Some (n, u)) = Holding js lens lens' seqs seqs' text text' n u
 
 -- what adding asks: room for 32 lengths, 32 sequences and 2,048 bytes, and the keys in it
 pub record WatchTable (lens seqs : List ℕ) (text : Bytes) (count used : ℕ) : Type 0 where

@@ -6,11 +6,9 @@ use mathlib.Core.Path.{◌≡◌, refl, sym, ap, ◌∙◌, subst}
 use mathlib.Core.Logic.{⊎_elim}
 use mathlib.Core.Bool.{Bool, true, false, cond}
 use mathlib.Core.List.{List, [], ◌∷◌, ◌++◌}
-use mathlib.Core.Option.{Option, none, some}
+use Rattle.std.specs.Prelude.{Option, None, Some}
 use lib.ListN.{take, drop}
-use borrow.Author.Tests.{ltb-true, lt-ltb, le-ltb}
-use Rattle.base_key.specs.declared.Order.{Order}
-use Rattle.base_key.specs.declared.Order.TheVariants.{Less, Equal, Greater}
+use borrow.Author.Tests.{ltb-true, lt-ltb}
 use Rattle.base_key.specs.Bytes.{Bytes, ◌and◌}
 use Rattle.base_key.specs.Keys.{Key, compare_keys, is_less, key_below, same_key}
 use Rattle.base_key.proofs.Keys.{less_is, turned, compare_turned, compare_trans, compare_refl, key_swap, same_is, same_less}
@@ -18,36 +16,14 @@ use Rattle.base_key.proofs.Bytes.{and_left, and_right, neither}
 use Rattle.store_memtable.specs.Table.{Value, Write, update, find, Above, Ascending}
 use Rattle.store_memtable.proofs.TableLaws.{step, update_step, above_trans, find_above}
 use Rattle.group_spec.specs.Members.{list_from, write_at}
-use Rattle.group_spec.specs.Settling.{key_part, KeyIn}
+use Rattle.group_spec.specs.Settling.{KeyIn}
 use Rattle.command_writes.specs.Own.{own_writes, Own, OwnAt}
 use Rattle.command_writes.specs.Changes.{place_among, held_at}
 use Rattle.group_spec.proofs.Walks.{list_next, list_end, take_list, drop_list}
 use Rattle.command_writes.proofs.Growing.{own_row}
 use Rattle.command_writes.proofs.Lists.{by_order}
-
--- the key of row i, from the part l
-module _ (w : List ℕ) (d : Bytes) (i : ℕ) (k : Key) {l : Key} (p : l ≡ key_part w d (4 * i)) where
-  module _ {o : Order} (is : o ≡ compare_keys l k) where
-    below_is : key_below (write_at w d i).0 k ≡ is_less o
-    unfolding key_below write_at
-    below_is = rw (is, p)
-
-    pub below_less : o ≡ Less → true ≡ key_below (write_at w d i).0 k
-    below_less e = sym (below_is ∙ ap is_less e)
-
-    pub below_equal : o ≡ Equal → false ≡ key_below (write_at w d i).0 k
-    below_equal e = sym (below_is ∙ ap is_less e)
-
-    pub below_greater : o ≡ Greater → false ≡ key_below (write_at w d i).0 k
-    below_greater e = sym (below_is ∙ ap is_less e)
-
-  pub held_here : {n : ℕ} {r : Bool} → i < n → r ≡ same_key l k → r ≡ held_at w d n k i
-  unfolding held_at write_at ◌and◌
-  held_here {n} h is = rw (lt-ltb i n h) (is ∙ ap (λ (x : Key). same_key x k) p)
-
-pub held_past : (w : List ℕ) (d : Bytes) (n i : ℕ) (k : Key) → n ≤ i → false ≡ held_at w d n k i
-unfolding held_at ◌and◌
-held_past w d n i k h = rw (le-ltb i n h)
+use Rattle.std.specs.declared.cmp.Ordering.TheVariants.{Less, Equal, Greater}
+use Rattle.std.specs.declared.cmp.Ordering.{Ordering}
 
 -- the key of a row lies in the data
 pub own_key_in : (w : List ℕ) (d : Bytes) {n i : ℕ} → Own w d n → i < n → KeyIn w d (4 * i)
@@ -153,45 +129,45 @@ unfolding find place_among key_below
 find_place k [] = refl
 find_place k (w ∷ ws) = go (compare_keys w.0 k) refl (find_place k ws)
   where
-    go : (o : Order) → compare_keys w.0 k ≡ o → find ws k ≡ find (drop (place_among k ws) ws) k
+    go : (o : Ordering) → compare_keys w.0 k ≡ o → find ws k ≡ find (drop (place_among k ws) ws) k
         → find (w ∷ ws) k ≡ find (drop (cond (is_less o) (suc (place_among k ws)) 0) (w ∷ ws)) k
     go Less p ih = rw (same_less w.0 k p) ih
     go Equal p ih = refl
     go Greater p ih = refl
 
 update_place : (k : Key) (v : Option Value) (ws : List Write)
-    → update k (some v) ws ≡ take (place_among k ws) ws ++ update k (some v) (drop (place_among k ws) ws)
+    → update k (Some v) ws ≡ take (place_among k ws) ws ++ update k (Some v) (drop (place_among k ws) ws)
 unfolding place_among key_below step
 update_place k v [] = refl
 update_place k v (w ∷ ws) = go (compare_keys w.0 k) refl (update_place k v ws)
   where
-    go : (o : Order) → compare_keys w.0 k ≡ o → update k (some v) ws ≡ take (place_among k ws) ws ++ update k (some v) (drop (place_among k ws) ws)
-        → update k (some v) (w ∷ ws) ≡ take (cond (is_less o) (suc (place_among k ws)) 0) (w ∷ ws) ++ update k (some v) (drop (cond (is_less o) (suc (place_among k ws)) 0) (w ∷ ws))
+    go : (o : Ordering) → compare_keys w.0 k ≡ o → update k (Some v) ws ≡ take (place_among k ws) ws ++ update k (Some v) (drop (place_among k ws) ws)
+        → update k (Some v) (w ∷ ws) ≡ take (cond (is_less o) (suc (place_among k ws)) 0) (w ∷ ws) ++ update k (Some v) (drop (cond (is_less o) (suc (place_among k ws)) 0) (w ∷ ws))
     go Less p ih =
         let g : compare_keys k w.0 ≡ Greater = compare_turned w.0 k ∙ ap turned p in
-        update_step k (some v) w ws ∙ ap (λ (o : Order). step o k (some v) w ws) g ∙ ap (λ (l : List Write). w ∷ l) ih
+        update_step k (Some v) w ws ∙ ap (λ (o : Ordering). step o k (Some v) w ws) g ∙ ap (λ (l : List Write). w ∷ l) ih
     go Equal p ih = refl
     go Greater p ih = refl
 
-update_here : (k : Key) (v : Option Value) (w : Write) (ws : List Write) → same_key w.0 k ≡ true → update k (some v) (w ∷ ws) ≡ (k, v) ∷ ws
+update_here : (k : Key) (v : Option Value) (w : Write) (ws : List Write) → same_key w.0 k ≡ true → update k (Some v) (w ∷ ws) ≡ (k, v) ∷ ws
 unfolding step
 update_here k v w ws e =
     let p : compare_keys k w.0 ≡ Equal = ap (compare_keys k) (same_is w.0 k e) ∙ compare_refl k in
-    update_step k (some v) w ws ∙ ap (λ (o : Order). step o k (some v) w ws) p
+    update_step k (Some v) w ws ∙ ap (λ (o : Ordering). step o k (Some v) w ws) p
 
 -- neither below nor the same is above
 behind : (j k : Key) → key_below j k ≡ false → same_key j k ≡ false → compare_keys k j ≡ Less
 unfolding key_below same_key
 behind j k b s = go (compare_keys j k) refl b s
   where
-    go : (o : Order) → compare_keys j k ≡ o → is_less o ≡ false → same_key j k ≡ false → compare_keys k j ≡ Less
+    go : (o : Ordering) → compare_keys j k ≡ o → is_less o ≡ false → same_key j k ≡ false → compare_keys k j ≡ Less
     go Less p b s = neither refl b
-    go Equal p b s = neither (ap (λ (o : Order). elim o [ Less ↦ false | Equal ↦ true | Greater ↦ false ]) p) s
+    go Equal p b s = neither (ap (λ (o : Ordering). elim o [ Less ↦ false | Equal ↦ true | Greater ↦ false ]) p) s
     go Greater p b s = key_swap j k p
 
-update_before : (k : Key) (v : Option Value) (w : Write) (ws : List Write) → compare_keys k w.0 ≡ Less → update k (some v) (w ∷ ws) ≡ (k, v) ∷ w ∷ ws
+update_before : (k : Key) (v : Option Value) (w : Write) (ws : List Write) → compare_keys k w.0 ≡ Less → update k (Some v) (w ∷ ws) ≡ (k, v) ∷ w ∷ ws
 unfolding step
-update_before k v w ws p = update_step k (some v) w ws ∙ ap (λ (o : Order). step o k (some v) w ws) p
+update_before k v w ws p = update_step k (Some v) w ws ∙ ap (λ (o : Ordering). step o k (Some v) w ws) p
 
 pub ascending_drop : (p : ℕ) (ws : List Write) → Ascending ws → Ascending (drop p ws)
 ascending_drop zero ws s = s
@@ -222,8 +198,8 @@ module _ (w : List ℕ) (d : Bytes) (n : ℕ) (k : Key) {i : ℕ} (i-is : i ≡ 
   found_is : find (own_writes w d n) k ≡ find (list_from (write_at w d) i (n - i)) k
   found_is = find_place k (own_writes w d n) ∙ ap (λ (l : List Write). find l k) rest_is
 
-  changed_is : (v : Option Value) → update k (some v) (own_writes w d n) ≡ list_from (write_at w d) 0 i ++ update k (some v) (list_from (write_at w d) i (n - i))
-  changed_is v = update_place k v (own_writes w d n) ∙ (λ z. front_is z ++ update k (some v) (rest_is z))
+  changed_is : (v : Option Value) → update k (Some v) (own_writes w d n) ≡ list_from (write_at w d) 0 i ++ update k (Some v) (list_from (write_at w d) i (n - i))
+  changed_is v = update_place k v (own_writes w d n) ∙ (λ z. front_is z ++ update k (Some v) (rest_is z))
 
   -- the row holds the key
   module _ {r : Bool} (held : r ≡ held_at w d n k i) (yes : r ≡ true) where
@@ -241,14 +217,14 @@ module _ (w : List ℕ) (d : Bytes) (n : ℕ) (k : Key) {i : ℕ} (i-is : i ≡ 
       inside = held_inside;
       is =
           found_is ∙ ap (λ (l : List Write). find l k) (list_next (write_at w d) held_inside)
-          ∙ ap (λ (b : Bool). cond b (some (write_at w d i).1) (find (list_from (write_at w d) (i + 1) (n - (i + 1))) k)) held_same;
+          ∙ ap (λ (b : Bool). cond b (Some (write_at w d i).1) (find (list_from (write_at w d) (i + 1) (n - (i + 1))) k)) held_same;
     }
 
-    pub changed_here : (v : Option Value) → update k (some v) (own_writes w d n) ≡ list_from (write_at w d) 0 i ++ (k, v) ∷ list_from (write_at w d) (i + 1) (n - (i + 1))
+    pub changed_here : (v : Option Value) → update k (Some v) (own_writes w d n) ≡ list_from (write_at w d) 0 i ++ (k, v) ∷ list_from (write_at w d) (i + 1) (n - (i + 1))
     changed_here v =
         changed_is v
         ∙ ap (λ (l : List Write). list_from (write_at w d) 0 i ++ l)
-        (ap (update k (some v)) (list_next (write_at w d) held_inside) ∙ update_here k v (write_at w d i) _ held_same)
+        (ap (update k (Some v)) (list_next (write_at w d) held_inside) ∙ update_here k v (write_at w d i) _ held_same)
 
   -- no row holds the key
   module _ {r : Bool} (held : r ≡ held_at w d n k i) (no : r ≡ false) where
@@ -256,7 +232,7 @@ module _ (w : List ℕ) (d : Bytes) (n : ℕ) (k : Key) {i : ℕ} (i-is : i ≡ 
     unfolding held_at ◌and◌
     above_key h = behind (write_at w d i).0 k (stops h) (ap (λ (b : Bool). b and same_key (write_at w d i).0 k) (sym (lt-ltb i n h)) ∙ sym held ∙ no)
 
-    pub found_nothing : Own w d n → find (own_writes w d n) k ≡ none
+    pub found_nothing : Own w d n → find (own_writes w d n) k ≡ None
     unfolding own_writes find
     found_nothing o =
         by_order i n
@@ -267,7 +243,7 @@ module _ (w : List ℕ) (d : Bytes) (n : ℕ) (k : Key) {i : ℕ} (i-is : i ≡ 
         found_is ∙ ap (λ (l : List Write). find l k) c ∙ find_above k (write_at w d i ∷ list_from (write_at w d) (i + 1) (n - (i + 1))) (above_key h, above_trans k (write_at w d i).0 (list_from (write_at w d) (i + 1) (n - (i + 1))) (above_key h) b.0))
         (λ h. found_is ∙ ap (λ (l : List Write). find l k) (list_end (write_at w d) h))
 
-    pub changed_between : (v : Option Value) → update k (some v) (own_writes w d n) ≡ list_from (write_at w d) 0 i ++ (k, v) ∷ list_from (write_at w d) i (n - i)
+    pub changed_between : (v : Option Value) → update k (Some v) (own_writes w d n) ≡ list_from (write_at w d) 0 i ++ (k, v) ∷ list_from (write_at w d) i (n - i)
     unfolding update
     changed_between v =
         changed_is v
@@ -275,5 +251,5 @@ module _ (w : List ℕ) (d : Bytes) (n : ℕ) (k : Key) {i : ℕ} (i-is : i ≡ 
         (by_order i n
         (λ h.
         let c : list_from (write_at w d) i (n - i) ≡ write_at w d i ∷ list_from (write_at w d) (i + 1) (n - (i + 1)) = list_next (write_at w d) h in
-        ap (update k (some v)) c ∙ update_before k v (write_at w d i) _ (above_key h) ∙ ap (λ (l : List Write). (k, v) ∷ l) (sym c))
-        (λ h. ap (update k (some v)) (list_end (write_at w d) h) ∙ ap (λ (l : List Write). (k, v) ∷ l) (sym (list_end (write_at w d) h))))
+        ap (update k (Some v)) c ∙ update_before k v (write_at w d i) _ (above_key h) ∙ ap (λ (l : List Write). (k, v) ∷ l) (sym c))
+        (λ h. ap (update k (Some v)) (list_end (write_at w d) h) ∙ ap (λ (l : List Write). (k, v) ∷ l) (sym (list_end (write_at w d) h))))

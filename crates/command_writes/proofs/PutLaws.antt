@@ -7,7 +7,7 @@ use mathlib.Core.Path.{◌≡◌, sym, ap, ◌∙◌, subst}
 use mathlib.Core.Logic.{⊎_elim}
 use mathlib.Core.Bool.{Bool, true, false}
 use mathlib.Core.List.{List, [], ◌∷◌, ◌++◌}
-use mathlib.Core.Option.{Option, some}
+use Rattle.std.specs.Prelude.{Option, Some}
 use lib.ListN.{length}
 use Rattle.base_key.specs.Bytes.{Bytes, part, moved_up, put_at}
 use Rattle.base_key.specs.Keys.{Key}
@@ -25,12 +25,12 @@ use Rattle.command_writes.proofs.RowLaws.{same_write, same_inside, row_other_bef
 
 -- a table with these writes in these rows is one of own writes
 put_made : {w w' : List ℕ} {d : Bytes} {n r : ℕ} {k : Key} {v : Option Value} → Own w d n → n ≤ r → r ≤ n + 1 → 4 * r ≤ length w → length w' ≡ length w
-    → ((j : ℕ) → j < r → write_inside w' d j ≡ true) → own_writes w' d r ≡ update k (some v) (own_writes w d n) → OwnPut w w' d n k v r
+    → ((j : ℕ) → j < r → write_inside w' d j ≡ true) → own_writes w' d r ≡ update k (Some v) (own_writes w d n) → OwnPut w w' d n k v r
 unfolding own_writes
 put_made {w} {w'} {d} {n} {r} {k} {v} o a b room same inside is = record {
   kept = record {
     rows = record { rows_in = omega arith; parts_in = all_of (write_inside w' d) 0 r (λ m h. ap (write_inside w' d) (zero-add m) ∙ inside m h) };
-    rising = subst Ascending (sym is) (ascending_update k (some v) (own_writes w d n) o.rising);
+    rising = subst Ascending (sym is) (ascending_update k (Some v) (own_writes w d n) o.rising);
   };
   is = is;
   more = a;
@@ -84,7 +84,7 @@ module _ (w : List ℕ) (d : Bytes) (n ks kl : ℕ) {i : ℕ} where
             (λ l. ⊎_elim (λ (e : i ≡ j). ap (write_inside new d) (sym e) ∙ row_inside w i ks kl vs x put_room d fits)
             (λ (e : i < j). same_inside (row_other_behind w i ks kl vs x put_room j e) d ∙ own_inside w d n j o h) (eq-or-lt_of_le l))
 
-        replaced_list : own_writes new d n ≡ update (part ks kl d) (some value) (own_writes w d n)
+        replaced_list : own_writes new d n ≡ update (part ks kl d) (Some value) (own_writes w d n)
         unfolding own_writes new value list_from
         replaced_list =
             let g = inside in
@@ -140,7 +140,7 @@ module _ (w : List ℕ) (d : Bytes) (n ks kl : ℕ) {i : ℕ} where
             (λ l. ⊎_elim (λ (e : i ≡ suc j). ap (write_inside grown d) (sym e) ∙ row_inside up i ks kl vs x up_room d fits)
             (λ (e : i < suc j). (grown_behind j (omega arith) (omega arith)).1 ∙ own_inside w d n j o (omega arith)) (eq-or-lt_of_le l))
 
-        grown_list : own_writes grown d (n + 1) ≡ update (part ks kl d) (some value) (own_writes w d n)
+        grown_list : own_writes grown d (n + 1) ≡ update (part ks kl d) (Some value) (own_writes w d n)
         unfolding own_writes grown value list_from
         grown_list =
             let g = put_low in

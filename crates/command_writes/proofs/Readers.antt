@@ -2,7 +2,7 @@
 use Prim.Native.Nat.{ℕ}
 use mathlib.Core.Path.{◌≡◌, ap}
 use mathlib.Core.List.{List}
-use mathlib.Core.Option.{none}
+use Rattle.std.specs.Prelude.{None}
 use Rattle.base_key.specs.Bytes.{Bytes}
 use Rattle.base_key.specs.Keys.{Key}
 use Rattle.store_memtable.specs.Table.{Write, find, over}
@@ -18,7 +18,7 @@ module _ {own : List ℕ} {d : Bytes} {n : ℕ} (o : Own own d n) (w : List ℕ)
   unfolding reader_of
   reader_at k f = over_some (own_writes own d n) (read_at s (versions_in w b)) k o.rising f.is
 
-  pub reader_past : (k : Key) → find (own_writes own d n) k ≡ none → reader_of own d n w b s k ≡ read_at s (versions_in w b) k
+  pub reader_past : (k : Key) → find (own_writes own d n) k ≡ None → reader_of own d n w b s k ≡ read_at s (versions_in w b) k
   unfolding reader_of
   reader_past k e = over_none (own_writes own d n) (read_at s (versions_in w b)) k o.rising e
 

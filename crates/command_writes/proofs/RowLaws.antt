@@ -2,9 +2,9 @@
 use Prim.Native.Nat.{ℕ, suc, ◌+◌, ◌-◌, ◌*◌, ◌≤◌, ◌<◌}
 use native.Mathlib.Nat.{add-zero}
 use native.Mathlib.Omega.{arith}
-use mathlib.Core.Path.{◌≡◌, sym, ap, ◌∙◌}
+use mathlib.Core.Path.{◌≡◌, refl, sym, ap, ◌∙◌}
 use mathlib.Core.Bool.{true}
-use mathlib.Core.List.{List, [], ◌∷◌, ◌++◌}
+use mathlib.Core.List.{List, [], ◌∷◌, ◌++◌, append_assoc}
 use lib.Dec.{leb}
 use lib.ListN.{length, get_or, take, drop, set, get_or-append}
 use lib.Seq.{slice, length-slice, length-take-le, get_or-take, get_or-drop, get_or-append-add}
@@ -13,6 +13,8 @@ use Rattle.base_key.specs.Bytes.{Bytes, ◌and◌, part, moved_up, put_at}
 use Rattle.base_key.proofs.Bytes.{and_both}
 use Rattle.store_memtable.specs.Layout.{value_of_word}
 use Rattle.store_memtable.proofs.Moves.{row_put}
+use Rattle.std.proofs.lemmas.List.{drop-take}
+use Rattle.std.specs.List.{copy_within}
 use Rattle.group_spec.specs.Members.{value_inside, write_at, write_inside}
 use Rattle.command_writes.specs.Changes.{RowFits}
 
@@ -21,6 +23,15 @@ pub row_set : (w : List ℕ) (i s k v q : ℕ) {a b c e : ℕ} → a ≡ s → b
     → set (set (set (set w (4 * i) a) (4 * i + 1) b) (4 * i + 2) c) (4 * i + 3) e ≡ put_at (4 * i) (s ∷ k ∷ v ∷ q ∷ []) w
 row_set w i s k v q a-is b-is c-is e-is h =
     (λ z. set (set (set (set w (4 * i) (a-is z)) (4 * i + 1) (b-is z)) (4 * i + 2) (c-is z)) (4 * i + 3) (e-is z)) ∙ row_put w (4 * i) s k v q h
+
+-- a copy within the table that moves words up
+pub copied_up : (from to by : ℕ) (l : List ℕ) → from ≤ to → copy_within l from to (from + by) ≡ moved_up from to by l
+unfolding moved_up
+copied_up from to by l h =
+    let e : from + (to - from) ≡ to = omega arith in
+    let f : from + by + (to - from) ≡ to + by = omega arith in
+    append_assoc (take (from + by) l) (take (to - from) (drop from l)) (drop (from + by + (to - from)) l)
+    ∙ rw (← drop-take, e, f) refl
 
 module _ (at : ℕ) (xs l : List ℕ) (h : at ≤ length l) where
   pub put_before : (x : ℕ) → x < at → get_or (put_at at xs l) x 0 ≡ get_or l x 0

@@ -1,6 +1,6 @@
 -- What the functions over the own writes answer and leave: the place of a key, a write set, and the writes of a command's arguments set.
 use Rattle.std.specs.Prelude.{ℕ, suc, ◌+◌, ◌≤◌, ◌≡◌, Bool, true, cond, List, [], ◌∷◌, ltb, length}
-use Rattle.std.proofs.Math.Option.{Option, some}
+use Rattle.std.specs.Prelude.{Option, Some}
 use Rattle.base_key.specs.Bytes.{Bytes, ◌and◌}
 use Rattle.base_key.specs.Keys.{Key, key_below, same_key}
 use Rattle.store_memtable.specs.Table.{Value, Write, update, last_writes}
@@ -24,7 +24,7 @@ pub record RowFits (d : Bytes) (keyStart keyLen value_start word : ℕ) : Type 0
 -- what setting the write of a key leaves, with r rows
 pub record OwnPut (own own' : List ℕ) (d : Bytes) (n : ℕ) (k : Key) (v : Option Value) (r : ℕ) : Type 0 where
   pub kept : Own own' d r
-  pub is : own_writes own' d r ≡ update k (some v) (own_writes own d n)
+  pub is : own_writes own' d r ≡ update k (Some v) (own_writes own d n)
   pub more : n ≤ r
   pub most : r ≤ n + 1
   pub same : length own' ≡ length own

@@ -1,5 +1,5 @@
 // The writes of a command whose arguments are parts of the same data.
-ghost use Rattle.std.proofs.Math.Option.{none, some};
+ghost use Rattle.std.specs.Prelude.{None, Some};
 ghost use Rattle.std.specs.Prelude.{◌+◌, ◌-◌, ◌*◌, ◌/◌, ◌≤◌, length};
 ghost use Rattle.group_spec.specs.Settling.{KeyIn};
 ghost use Rattle.command_spec.specs.Places.{argument_at, tombstones_at, pairs_at, PartsIn};
@@ -14,7 +14,7 @@ pub fn put_tombstone(own: &mut [u64], n: usize, data: &[u8], places: &[u64], k: 
     requires own { Own own.old «data».now n }
     requires n_in_bounds { 4 * n + 4 ≤ length own.old }
     requires key_in { KeyIn places.now «data».now (2 * k) }
-    ensures { OwnPut own.old own.new «data».now n (argument_at k places.now «data».now) none result }
+    ensures { OwnPut own.old own.new «data».now n (argument_at k places.now «data».now) None result }
 {
     let start = read::word(places, 2 * k);
     let len = read::word(places, 2 * k + 1);
@@ -27,7 +27,7 @@ pub fn put_pair(own: &mut [u64], n: usize, data: &[u8], places: &[u64], k: usize
     requires n_in_bounds { 4 * n + 4 ≤ length own.old }
     requires key_in { KeyIn places.now «data».now (2 * k) }
     requires key_in_2 { KeyIn places.now «data».now (2 * v) }
-    ensures { OwnPut own.old own.new «data».now n (argument_at k places.now «data».now) (some (argument_at v places.now «data».now)) result }
+    ensures { OwnPut own.old own.new «data».now n (argument_at k places.now «data».now) (Some (argument_at v places.now «data».now)) result }
 {
     let start = read::word(places, 2 * k);
     let len = read::word(places, 2 * k + 1);
@@ -52,10 +52,8 @@ pub fn put_tombstones(
     ensures { OwnPuts own.old own.new «data».now n (tombstones_at from (to - from) places.now «data».now) (to - from) result }
 {
     let mut r = n;
-    let mut i = from;
-    while i < to {
+    for i in from..to {
         r = put_tombstone(own, r, data, places, i);
-        i += 1;
     }
     r
 }
@@ -76,10 +74,9 @@ pub fn put_pairs(
     ensures { OwnPuts own.old own.new «data».now n (pairs_at from (to - from) places.now «data».now) ((to - from) / 2) result }
 {
     let mut r = n;
-    let mut i = from;
-    while 1 < to - i {
+    for j in 0..(to - from) / 2 {
+        let i = from + 2 * j;
         r = put_pair(own, r, data, places, i, i + 1);
-        i += 2;
     }
     r
 }

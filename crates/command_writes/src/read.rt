@@ -6,21 +6,19 @@ ghost use Rattle.group_spec.specs.Settling.{KeyIn};
 ghost use Rattle.command_writes.specs.Own.{own_writes, Own, OwnFound};
 ghost use Rattle.command_writes.specs.Changes.{place_among, held_at};
 
-use base_key::Order;
 use group_spec::parts;
-use store_memtable::Found;
+use std::cmp::Ordering;
 
 // Does the key of row i come before `name`?
+#[tactic(auto, unfolding(base_key::specs::Keys::key_below, group_spec::specs::Members::write_at))]
 fn comes_before(own: &[u64], data: &[u8], i: usize, name: &[u8]) -> bool
     requires { KeyIn own.now «data».now (4 * i) }
     ensures { result ≡ key_below (write_at own.now «data».now i).0 name.now }
 {
-    let order = base_key::compare(parts::key_part(own, data, 4 * i), name);
-    match order {
-        Order::Less => true,
-        Order::Equal => false,
-        Order::Greater => false,
-    }
+    matches!(
+        base_key::compare(parts::key_part(own, data, 4 * i), name),
+        Ordering::Less
+    )
 }
 
 // How many of the n keys come before `name`: the place to insert it, and to find it.
@@ -46,20 +44,17 @@ pub fn holds(own: &[u64], n: usize, data: &[u8], i: usize, name: &[u8]) -> bool
     requires { Own own.now «data».now n }
     ensures { result ≡ held_at own.now «data».now n name.now i }
 {
-    if n <= i {
-        return false;
-    }
-    base_key::same(parts::key_part(own, data, 4 * i), name)
+    i < n && base_key::same(parts::key_part(own, data, 4 * i), name)
 }
 
 // The row of the write of `name`.
-pub fn find(own: &[u64], n: usize, data: &[u8], name: &[u8]) -> Found
+pub fn find(own: &[u64], n: usize, data: &[u8], name: &[u8]) -> Option<usize>
     requires { Own own.now «data».now n }
     ensures { OwnFound own.now «data».now n name.now result }
 {
     let i = place(own, n, data, name);
     if holds(own, n, data, i, name) {
-        return Found::At(i);
+        return Some(i);
     }
-    Found::Nothing
+    None
 }

@@ -1,6 +1,5 @@
 // Lines on standard output. Bytes are written as in a byte string: CR, LF and `\` are escaped, and a byte outside
 // ASCII's printed ones is `\x` and two digits.
-use base_writing::Put;
 use resp_spec::Span;
 use std::io::Stdout;
 
@@ -45,10 +44,10 @@ pub fn escaped(stdout: Stdout, bytes: &[u8]) {
 }
 
 // What a writer put at the front of `buffer`, or `full`, and the line's end.
-pub fn written(stdout: Stdout, buffer: &[u8], put: Put) {
+pub fn written(stdout: Stdout, buffer: &[u8], put: Option<usize>) {
     match put {
-        Put::Wrote(len) => escaped(stdout, resp_faults::part_of(buffer, Span { start: 0, len })),
-        Put::Full => text(stdout, b"full"),
+        Some(len) => escaped(stdout, resp_faults::part_of(buffer, Span { start: 0, len })),
+        None => text(stdout, b"full"),
     }
     byte(stdout, b'\n')
 }

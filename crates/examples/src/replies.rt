@@ -1,24 +1,23 @@
 // A reply, written item by item behind one another into a buffer whose size is the record's first byte. An item is a record.
 use crate::{lines, records};
-use base_number::{Number, integer};
-use base_writing::Put;
+use base_number::integer;
 use command_spec::Fixed;
 use resp_encode::reply;
 use resp_spec::Letters;
 use std::io::Stdout;
 
-fn sum(a: Number, b: Number) -> Number {
-    let Number::Int(x) = a else {
+fn sum(a: Option<i64>, b: Option<i64>) -> Option<i64> {
+    let Some(x) = a else {
         return a;
     };
-    let Number::Int(y) = b else {
+    let Some(y) = b else {
         return a;
     };
     integer::checked_sum(x, y)
 }
 
 // A number, or the sum of two: each is a record.
-fn number(bytes: &[u8]) -> Number {
+fn number(bytes: &[u8]) -> Option<i64> {
     let one = records::record_at(bytes, 0);
     let two = records::record_at(bytes, one.end);
     sum(
@@ -28,8 +27,8 @@ fn number(bytes: &[u8]) -> Number {
 }
 
 // An integer reply for `:`, and otherwise the digits alone.
-fn put_number(kind: u8, out: &mut [u8], number: Number) -> Put {
-    let Number::Int(z) = number else {
+fn put_number(kind: u8, out: &mut [u8], number: Option<i64>) -> Option<usize> {
+    let Some(z) = number else {
         return base_writing::put_bytes(out, b"none");
     };
     if kind == b':' {
@@ -39,22 +38,22 @@ fn put_number(kind: u8, out: &mut [u8], number: Number) -> Put {
 }
 
 // A simple string or an error, behind its mark.
-fn put_line(mark: u8, out: &mut [u8], text: &[u8]) -> Put {
+fn put_line(mark: u8, out: &mut [u8], text: &[u8]) -> Option<usize> {
     let marked = base_writing::put_byte(out, mark);
     let line = resp_sanitize::then_clean(out, marked, text, Letters::AsSent);
     reply::then_crlf(out, line)
 }
 
-fn put_fixed(kind: u8, out: &mut [u8]) -> Put {
+fn put_fixed(kind: u8, out: &mut [u8]) -> Option<usize> {
     match kind {
-        b'_' => resp_items::then_nil(out, Put::Wrote(0)),
+        b'_' => resp_items::then_nil(out, Some(0)),
         b'0' => reply::put_nil_array(out),
         b'c' => reply::put_bulk_digits(out, 18446744073709551615),
         _ => command_errors::put_fixed(out, Fixed::ExecAbort),
     }
 }
 
-fn put_quoted(kind: u8, out: &mut [u8], text: &[u8]) -> Put {
+fn put_quoted(kind: u8, out: &mut [u8], text: &[u8]) -> Option<usize> {
     match kind {
         b'u' => command_errors::put_unknown(out, text),
         b'q' => command_errors::put_not_queueable(out, text),
@@ -64,7 +63,7 @@ fn put_quoted(kind: u8, out: &mut [u8], text: &[u8]) -> Put {
 }
 
 // The head of an array counts the bytes of its item.
-fn put_item(kind: u8, out: &mut [u8], text: &[u8]) -> Put {
+fn put_item(kind: u8, out: &mut [u8], text: &[u8]) -> Option<usize> {
     match kind {
         b'+' | b'-' => put_line(kind, out, text),
         b'$' => reply::put_bulk(out, text),
@@ -77,7 +76,7 @@ fn put_item(kind: u8, out: &mut [u8], text: &[u8]) -> Put {
 
 // The reply into the whole of `out`, and the line's end.
 fn reply_in(stdout: Stdout, out: &mut [u8], bytes: &[u8]) {
-    let mut put = Put::Wrote(0);
+    let mut put = Some(0);
     let mut at = 0;
     let mut turns = bytes.len();
     while 0 < turns {

@@ -4,7 +4,7 @@ use mathlib.Core.Path.{◌≡◌, refl, sym, ap, ◌∙◌}
 use mathlib.Core.Bool.{Bool, true, false, cond}
 use mathlib.Core.List.{List, []}
 use mathlib.Core.Logic.{◌⊎◌, inl, inr}
-use mathlib.Core.Option.{Option, none, some}
+use Rattle.std.specs.Prelude.{Option, None, Some}
 use lib.Dec.{leb, eqb}
 use lib.ListN.{length}
 use borrow.Author.Tests.{eq-eqb, eqb-true}
@@ -93,8 +93,8 @@ queue_silent room q st s = by_silent (decide q st s).verdict room (decide q st s
 
 option_silent : (q : Option (List Args)) (room : ℕ) (st : Store) (s : Session) → Silent (decide_by q room st s)
 unfolding decide_by
-option_silent none room st s = reply_silent room _ _ _
-option_silent (some q) room st s = queue_silent room q st s
+option_silent None room st s = reply_silent room _ _ _
+option_silent (Some q) room st s = queue_silent room q st s
 
 pub exec_silent : (room : ℕ) (st : Store) (s : Session) → Silent (decide_exec room st s)
 unfolding decide_exec
@@ -122,8 +122,8 @@ by_number NotTaken room d = reply_number room _ _ _
 
 option_number : (q : Option (List Args)) (room : ℕ) (st : Store) (s : Session) → ExecNumber (decide_by q room st s).number
 unfolding decide_by decide_queue
-option_number none room st s = reply_number room _ _ _
-option_number (some q) room st s = by_number (decide q st s).verdict room (decide q st s)
+option_number None room st s = reply_number room _ _ _
+option_number (Some q) room st s = by_number (decide q st s).verdict room (decide q st s)
 
 pub exec_number : (room : ℕ) (st : Store) (s : Session) → ExecNumber (decide_exec room st s).number
 unfolding decide_exec

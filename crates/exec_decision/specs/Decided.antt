@@ -1,6 +1,6 @@
 -- EXEC as bytes in a lent reply buffer: what is decided of it, that applied, and a preview of it (document 02, R-6).
 use Rattle.std.specs.Prelude.{ℕ, ◌+◌, cond, List, [], leb, eqb, length}
-use Rattle.std.proofs.Math.Option.{Option, none, some}
+use Rattle.std.specs.Prelude.{Option, None, Some}
 use Rattle.base_key.specs.Bytes.{Bytes, bytes}
 use Rattle.resp_spec.specs.Reply.{encode, err}
 use Rattle.store_memtable.specs.Table.{Write}
@@ -42,8 +42,8 @@ decide_queue room q st s = let d = decide q st s in decided_by d.verdict room d
 
 -- EXEC of a session, by its queue: without MULTI no verdict is reached
 unfoldable pub decide_by : Option (List Args) → ℕ → Store → Session → Decided
-decide_by none room st s = decided_reply room NotTaken (encode (err (bytes "EXEC without MULTI"))) []
-decide_by (some q) room st s = decide_queue room q st s
+decide_by None room st s = decided_reply room NotTaken (encode (err (bytes "EXEC without MULTI"))) []
+decide_by (Some q) room st s = decide_queue room q st s
 
 -- EXEC of a session
 unfoldable pub decide_exec : ℕ → Store → Session → Decided

@@ -5,8 +5,6 @@ use mathlib.Core.Path.{◌≡◌, sym, ap, ◌∙◌, subst}
 use mathlib.Core.List.{List, ◌++◌}
 use lib.ListN.{length, replicate}
 use Rattle.base_key.specs.Bytes.{Bytes}
-use Rattle.base_writing.specs.declared.Put.{Put}
-use Rattle.base_writing.specs.declared.Put.TheVariants.{Wrote, Full}
 use Rattle.store_memtable.specs.Table.{Write}
 use Rattle.store_memtable.specs.Versions.{Store, commit}
 use Rattle.store_memtable.specs.Layout.{store_in, leave_words, leave_bytes}
@@ -28,6 +26,7 @@ use Rattle.exec_finish.specs.declared.Prepared.{Prepared}
 use Rattle.exec_finish.specs.Leaving.{Leaves, Closes}
 use Rattle.exec_finish.specs.Deciding.{Applies}
 use Rattle.command_answer.proofs.Finish.{finish_wrote, says_wrote, finish_full, full_cleared, says_number}
+use Rattle.std.specs.Prelude.{Option, None, Some}
 
 -- the same call under another name
 renamed : {x y : Served} (out : Bytes) (w b s : List ℕ) (sb : Bytes) {r : Answer} {out' : Bytes} {w' b' s' : List ℕ} → x ≡ y → Leaves y out w b s sb r out' w' b' s' → Leaves x out w b s sb r out' w' b' s'
@@ -44,8 +43,8 @@ all_left n out w b s sb {out'} v h z = record {
 }
 
 -- WITHOUT WRITES
-module _ {put : Put} (used : ℕ) {s : List ℕ} where
-  pub closes_wrote : {s' : List ℕ} {n : ℕ} → put ≡ Wrote n → Left cleared s s' → Closes put used s s' (record { number = 0; used = used; reply = n })
+module _ {put : Option ℕ} (used : ℕ) {s : List ℕ} where
+  pub closes_wrote : {s' : List ℕ} {n : ℕ} → put ≡ Some n → Left cleared s s' → Closes put used s s' (record { number = 0; used = used; reply = n })
   closes_wrote e l = record {
     leaves = λ x w b out mid sb v z p h.
         renamed out w b s sb (finish_wrote x p used (store_in w b) (store_in w b) (session_from s sb) clear e)
@@ -57,7 +56,7 @@ module _ {put : Put} (used : ℕ) {s : List ℕ} where
         });
   }
 
-  pub closes_full : {r : Answer} → put ≡ Full → r ≡ refusal 3 → Closes put used s s r
+  pub closes_full : {r : Answer} → put ≡ None → r ≡ refusal 3 → Closes put used s s r
   closes_full {r} e r-is = record {
     leaves = λ x w b out mid sb v z p h.
         renamed out w b s sb (finish_full x p used (store_in w b) (store_in w b) (session_from s sb) clear e)

@@ -2,14 +2,12 @@
 use Prim.Native.Nat.{ℕ, ◌+◌, ◌^◌, ◌≤◌, ◌<◌}
 use native.Mathlib.Omega.{arith}
 use mathlib.Core.Path.{◌≡◌, refl, sym, ap, ◌∙◌, subst}
-use mathlib.Core.Bool.{Bool, true, false, cond, not, ◌&&◌}
+use mathlib.Core.Bool.{Bool, true, false, cond, ◌&&◌}
 use mathlib.Core.List.{List, []}
 use lib.Dec.{leb, ltb}
 use lib.ListN.{length, take, replicate}
-use borrow.Author.Tests.{not-true, not-false, le-leb, lt-leb}
+use borrow.Author.Tests.{le-leb, lt-leb}
 use Rattle.base_key.specs.Bytes.{Bytes}
-use Rattle.base_writing.specs.declared.Put.{Put}
-use Rattle.base_writing.specs.declared.Put.TheVariants.{Wrote, Full}
 use Rattle.base_writing.specs.Puts.{Puts}
 use Rattle.base_writing.proofs.Puts.{was_wrote, was_full, length_kept}
 use Rattle.resp_spec.specs.Reply.{Reply, encode}
@@ -31,33 +29,9 @@ use Rattle.exec_decision.specs.Decided.{stopped, decided_reply}
 use Rattle.exec_decision.proofs.Executes.{judged_to}
 use Rattle.exec_finish.specs.declared.Prepared.{Prepared}
 use Rattle.exec_finish.specs.Deciding.{halted, prepared_by, judged_by, judged_buffer, Judges, Decides}
+use Rattle.std.specs.Prelude.{Option, None, Some}
 
--- BY THE CODE'S TESTS, where a reply was put
-module _ {put : Put} (verdict rows end : ℕ) where
-  pub prepared_wrote : {n : ℕ} → put ≡ Wrote n → record { number = 0; verdict = verdict; reply = n; rows = rows; end = end } ≡ prepared_by put verdict rows end
-  unfolding prepared_by
-  prepared_wrote e = rw e
-
-  pub prepared_full : {r : Prepared} → put ≡ Full → r ≡ halted 3 → r ≡ prepared_by put verdict rows end
-  unfolding prepared_by
-  prepared_full e r-is = rw e r-is
-
--- and after the queue
-module _ {room sequences t : Bool} (put : Put) (rows end : ℕ) (out : Bytes) {r : Prepared} {out' : Bytes} (t-is : t ≡ room) where
-  pub judges_six : not t ≡ true → r ≡ halted 6 → out' ≡ replicate (length out) 0 → Judges room sequences put rows end out r out'
-  unfolding judged_by judged_buffer
-  judges_six e r-is z = let y = sym t-is ∙ not-true t e in record { prepared = rw y r-is; buffer = rw y z }
-
-  module _ {q : Bool} (yes : not t ≡ false) (q-is : q ≡ sequences) where
-    pub judges_seven : not q ≡ true → r ≡ halted 7 → out' ≡ replicate (length out) 0 → Judges room sequences put rows end out r out'
-    unfolding judged_by judged_buffer
-    judges_seven e r-is z = let y = sym t-is ∙ not-false t yes in let x = sym q-is ∙ not-true q e in record { prepared = rw (y, x) r-is; buffer = rw (y, x) z }
-
-    pub judges_prepared : not q ≡ false → r ≡ prepared_by put 0 rows end → out' ≡ out → Judges room sequences put rows end out r out'
-    unfolding judged_by judged_buffer
-    judges_prepared e r-is z = let y = sym t-is ∙ not-false t yes in let x = sym q-is ∙ not-false q e in record { prepared = rw (y, x) r-is; buffer = rw (y, x) z }
-
--- AS DEFINED. There is room for no writes
+-- There is room for no writes
 no_rows : (w b own : List ℕ) → Valid w b → last_word w < 2 ^ 64 → RoomFor w 0 (sizes_from own 0 0)
 unfolding sizes_from
 no_rows w b own v h = record { rows_free = omega (arith, v.count_fits); bytes_free = omega (arith, v.used_fits); seqs_free = omega arith }
@@ -78,7 +52,7 @@ module _ (w own : List ℕ) (d out : Bytes) (empty : RoomFor w 0 (sizes_from own
 
   -- a reply that was put
   module _ (x : Reply) (v : Verdict) (rows end : ℕ) (o : Own own (take end d) rows) (fits : end ≤ length d) (space : RoomFor w rows (sizes_from own 0 rows))
-      {put : Put} {mid : Bytes} (z : out ≡ replicate (length out) 0) (p : Puts (encode x) out put mid) where
+      {put : Option ℕ} {mid : Bytes} (z : out ≡ replicate (length out) 0) (p : Puts (encode x) out put mid) where
     tells : {r : Prepared} → r ≡ prepared_by put (verdict_byte v) rows end → Decides (decided_reply (length out) v (encode x) (own_writes own (take end d) rows)) w out own d r mid
     unfolding prepared_by decided_reply
     tells {r} r-is = go put refl r-is
@@ -86,8 +60,8 @@ module _ (w own : List ℕ) (d out : Bytes) (empty : RoomFor w 0 (sizes_from own
         Goal : Bool → Type 0
         Goal t = Decides (cond t (record { number = 0; verdict = verdict_byte v; reply = encode x; writes = own_writes own (take end d) rows }) (stopped 3)) w out own d r mid
 
-        go : (k : Put) → put ≡ k → r ≡ prepared_by k (verdict_byte v) rows end → Goal (leb (length (encode x)) (length out))
-        go (Wrote n) e i =
+        go : (k : Option ℕ) → put ≡ k → r ≡ prepared_by k (verdict_byte v) rows end → Goal (leb (length (encode x)) (length out))
+        go (Some n) e i =
             let h = was_wrote p e in
             subst Goal (sym (le-leb (length (encode x)) (length out) (omega (arith, h.count, h.fits))))
             (subst (λ (y : Prepared). Decides (record { number = 0; verdict = verdict_byte v; reply = encode x; writes = own_writes own (take end d) rows }) w out own d y mid) (sym i) (record {
@@ -100,10 +74,10 @@ module _ (w own : List ℕ) (d out : Bytes) (empty : RoomFor w 0 (sizes_from own
               writes = refl;
               room = space;
             }))
-        go Full e i = let h = was_full p e in subst Goal (sym (lt-leb (length (encode x)) (length out) h.long)) (halts 3 i h.buffer)
+        go None e i = let h = was_full p e in subst Goal (sym (lt-leb (length (encode x)) (length out) h.long)) (halts 3 i h.buffer)
 
 -- without writes
-pub decides_prepared : (w b own : List ℕ) (d out : Bytes) (x : Reply) (v : Verdict) {put : Put} {mid : Bytes} {r : Prepared} → Valid w b → last_word w < 2 ^ 64 → out ≡ replicate (length out) 0
+pub decides_prepared : (w b own : List ℕ) (d out : Bytes) (x : Reply) (v : Verdict) {put : Option ℕ} {mid : Bytes} {r : Prepared} → Valid w b → last_word w < 2 ^ 64 → out ≡ replicate (length out) 0
     → Puts (encode x) out put mid → r ≡ prepared_by put (verdict_byte v) 0 0 → Decides (decided_reply (length out) v (encode x) []) w out own d r mid
 decides_prepared w b own d out x v {put} {mid} {r} ok h z p r-is =
     let e = no_rows w b own ok h in
@@ -112,7 +86,7 @@ decides_prepared w b own d out x v {put} {mid} {r} ok h z p r-is =
 
 -- after the queue
 module _ (w b own : List ℕ) (d out : Bytes) (x : Reply) (rows end : ℕ) (ok : Valid w b) (h : last_word w < 2 ^ 64) (o : Own own (take end d) rows) (fits : end ≤ length d)
-    {put : Put} {mid : Bytes} (z : out ≡ replicate (length out) 0) (p : Puts (encode x) out put mid) where
+    {put : Option ℕ} {mid : Bytes} (z : out ≡ replicate (length out) 0) (p : Puts (encode x) out put mid) where
   room_agrees : has_room (store_in w b) (own_writes own (take end d) rows) ≡ room_in w rows (sizes_from own 0 rows)
   unfolding has_room
   room_agrees =

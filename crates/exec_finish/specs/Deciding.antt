@@ -1,8 +1,6 @@
 -- EXEC in two parts: what was decided, in lent working memory, and what applying it leaves.
 use Rattle.std.specs.Prelude.{ℕ, ◌≤◌, ◌≡◌, Bool, cond, List, [], length, take, replicate}
 use Rattle.base_key.specs.Bytes.{Bytes}
-use Rattle.base_writing.specs.declared.Put.{Put}
-use Rattle.base_writing.specs.declared.Put.TheVariants.{Wrote, Full}
 use Rattle.store_memtable.specs.Table.{Write}
 use Rattle.store_memtable.specs.Layout.{count_word, used_word, most_versions_word, most_bytes_word, store_in}
 use Rattle.group_spec.specs.Settling.{RoomFor, sizes_from}
@@ -14,18 +12,19 @@ use Rattle.command_writes.specs.Own.{own_writes, Own}
 use Rattle.exec_decision.specs.Decided.{Decided, applied}
 use Rattle.exec_finish.specs.declared.Prepared.{Prepared}
 use Rattle.exec_finish.specs.Leaving.{Leaves}
+use Rattle.std.specs.Prelude.{Option, None, Some}
 
 -- a number: no verdict, no reply, no writes
 abbrev pub halted : ℕ → Prepared
 halted n = record { number = n; verdict = 255; reply = 0; rows = 0; end = 0 }
 
 -- a reply that was put, with its verdict and its writes, or 3
-unfoldable pub prepared_by : Put → ℕ → ℕ → ℕ → Prepared
-prepared_by (Wrote n) verdict rows end = record { number = 0; verdict = verdict; reply = n; rows = rows; end = end }
-prepared_by Full verdict rows end = halted 3
+unfoldable pub prepared_by : Option ℕ → ℕ → ℕ → ℕ → Prepared
+prepared_by (Some n) verdict rows end = record { number = 0; verdict = verdict; reply = n; rows = rows; end = end }
+prepared_by None verdict rows end = halted 3
 
 -- after the queue, by room and sequences
-unfoldable pub judged_by : Bool → Bool → Put → ℕ → ℕ → Prepared
+unfoldable pub judged_by : Bool → Bool → Option ℕ → ℕ → ℕ → Prepared
 judged_by room sequences put rows end = cond room (cond sequences (prepared_by put 0 rows end) (halted 7)) (halted 6)
 
 -- 6 and 7 clear the reply buffer
@@ -33,7 +32,7 @@ unfoldable pub judged_buffer : Bool → Bool → Bytes → Bytes
 judged_buffer room sequences out = cond room (cond sequences out (replicate (length out) 0)) (replicate (length out) 0)
 
 -- what is decided after the queue, and the reply buffer, before and after
-pub record Judges (room sequences : Bool) (put : Put) (rows end : ℕ) (out : Bytes) (r : Prepared) (out' : Bytes) : Type 0 where
+pub record Judges (room sequences : Bool) (put : Option ℕ) (rows end : ℕ) (out : Bytes) (r : Prepared) (out' : Bytes) : Type 0 where
   pub prepared : r ≡ judged_by room sequences put rows end
   pub buffer : out' ≡ judged_buffer room sequences out
 

@@ -10,7 +10,6 @@ ghost use Rattle.command_writes.specs.Own.{own_writes, Own};
 ghost use Rattle.exec_finish.specs.Leaving.{Closes};
 ghost use Rattle.exec_finish.specs.Deciding.{Applies, Counted, Judges, halted, prepared_by};
 
-use base_writing::Put;
 use command_spec::Answer;
 use exec_decision::{ACCEPTED, NONE_REACHED};
 use store_memtable::LAST;
@@ -27,17 +26,17 @@ pub struct Prepared {
 }
 
 // The answer of a reply that was put, with the session cleared: 3 where it does not fit, and then all stays.
-pub fn close(session_words: &mut [u64], put: Put, used: usize) -> Answer
+pub fn close(session_words: &mut [u64], put: Option<usize>, used: usize) -> Answer
     requires { length session_words.old ≡ 644 }
     ensures { Closes put used session_words.old session_words.new result }
 {
-    let Put::Wrote(n) = put else {
+    let Some(n) = put else {
         return command_answer::refusal(3);
     };
     session_flags::clear(session_words);
     Answer {
         number: 0,
-        used: used,
+        used,
         reply: n,
     }
 }
@@ -60,7 +59,7 @@ fn halt(number: u64) -> Prepared
     ensures { result ≡ halted number }
 {
     Prepared {
-        number: number,
+        number,
         verdict: NONE_REACHED,
         reply: 0,
         rows: 0,
@@ -69,29 +68,31 @@ fn halt(number: u64) -> Prepared
 }
 
 // What is decided where a reply was put: 3 where it does not fit.
-pub fn prepare(put: Put, verdict: u64, rows: usize, end: usize) -> Prepared
+#[tactic(auto, unfolding(crate::specs::Deciding::prepared_by))]
+pub fn prepare(put: Option<usize>, verdict: u64, rows: usize, end: usize) -> Prepared
     ensures { result ≡ prepared_by put verdict rows end }
 {
-    let Put::Wrote(len) = put else {
+    let Some(len) = put else {
         return halt(3);
     };
     Prepared {
         number: 0,
-        verdict: verdict,
+        verdict,
         reply: len,
-        rows: rows,
-        end: end,
+        rows,
+        end,
     }
 }
 
 // What is decided of an EXEC whose queue has run: 6 and 7 come before 3.
+#[tactic(auto, unfolding(crate::specs::Deciding::judged_by, crate::specs::Deciding::judged_buffer))]
 pub fn judge(
     own: &[u64],
     rows: usize,
     end: usize,
     words: &[u64],
     out: &mut [u8],
-    put: Put,
+    put: Option<usize>,
 ) -> Prepared
     requires rows_in_bounds { 4 * (0 + rows) ≤ length own.now }
     requires counted { Counted words.now }
@@ -124,16 +125,14 @@ pub fn apply(
     requires room_for { RoomFor words.old prepared.rows (sizes_from own.now 0 prepared.rows) }
     ensures { Applies (own_writes own.now «data».now prepared.rows) prepared used words.old bytes.old session_words.old words.new bytes.new session_words.new result }
 {
-    let number = prepared.number;
-    if number != 0 {
-        return command_answer::refusal(number);
+    if prepared.number != 0 {
+        return command_answer::refusal(prepared.number);
     }
-    let rows = prepared.rows;
-    commit_own(own, rows, data, words, bytes);
+    commit_own(own, prepared.rows, data, words, bytes);
     session_flags::clear(session_words);
     Answer {
         number: 0,
-        used: used,
+        used,
         reply: prepared.reply,
     }
 }

@@ -8,14 +8,11 @@ use lib.ListN.{length, get_or, take, drop, length-append, length-drop, take-appe
 use lib.Seq.{take_at, drop_at, drop-drop, take-take, take_all, length-take-le}
 use borrow.Author.Tests.{le-leb}
 use native.Mathlib.Numerals.{add-one}
-use mathlib.Core.Option.{Option, some}
-use Rattle.base_writing.specs.declared.Put.{Put}
-use Rattle.base_writing.specs.declared.Put.TheVariants.{Wrote, Full}
+use Rattle.std.specs.Prelude.{Some}
 use Rattle.base_writing.specs.Puts.{Puts, Adds}
 use Rattle.base_writing.proofs.Puts.{same_added, Written, was_wrote, was_full, same_length}
 use Rattle.base_writing.proofs.Lent.{rest, with_rest, rest_is, with_rest_is}
-use Rattle.store_memtable.specs.Table.{Value, update, last_writes}
-use Rattle.store_memtable.specs.Layout.{value_of_word}
+use Rattle.store_memtable.specs.Table.{update, last_writes}
 use Rattle.group_spec.specs.Members.{value_inside}
 use Rattle.group_spec.specs.Settling.{key_part, KeyIn}
 use Rattle.command_writes.specs.Changes.{RowFits, OwnPut}
@@ -29,8 +26,6 @@ use Rattle.base_number.proofs.Decimals.{decimal_few}
 use Rattle.command_spec.specs.Command.{Effect, argument, held, raised}
 use Rattle.command_writes.specs.Own.{own_writes, Own, reader_of}
 use Rattle.command_lookup.proofs.Counters.{raised_bad, raised_over, raised_to}
-use Rattle.base_number.specs.declared.Number.{Number}
-use Rattle.base_number.specs.declared.Number.TheVariants.{Int, Bad}
 use Rattle.base_number.specs.Number.{number_of}
 use Rattle.exec_queued.specs.declared.Walked.{Walked}
 use Rattle.command_meaning.specs.Kinds.{counter_effect}
@@ -43,6 +38,7 @@ use Rattle.command_spec.specs.Places.{arguments_at, PartsIn}
 use Rattle.command_spec.proofs.PlaceLaws.{part_in, argument_is}
 use Rattle.command_writes.proofs.Growing.{part_append, writes_append, own_append}
 use Rattle.store_memtable.proofs.TableLaws.{last_one}
+use Rattle.std.specs.Prelude.{Option, None}
 
 -- one more text, by a writer that was lent the part from n on
 rest_kept : {text entry mid : List ℕ} {n : ℕ} → Written text entry n mid → rest n mid ≡ drop n entry
@@ -60,10 +56,6 @@ behind {text} {more} {longer} {entry} {mid} {last} {n} {m} w v e =
           ∙ rw (e, append_assoc, drop-drop) refl;
     }
 
--- THE NUMBER READ
-pub holds : (own : List ℕ) (d : Bytes) (rows : ℕ) (w : List ℕ) (b : Bytes) (s : ℕ) {name k : Key} {h : Number} → name ≡ k → h ≡ held (reader_of own d rows w b s name) → h ≡ held (reader_of own d rows w b s k)
-holds own d rows w b s k-is h-is = h-is ∙ ap (λ (x : Key). held (reader_of own d rows w b s x)) k-is
-
 -- THE TEXT
 length_rest : (used : ℕ) (d : Bytes) → length (rest used d) ≡ length d - used
 length_rest used d = ap length (take_all (length d - used) (drop used d) (rw length-drop (omega arith))) ∙ length-drop used d
@@ -71,11 +63,11 @@ length_rest used d = ap length (take_all (length d - used) (drop used d) (rw len
 in_use : (used : ℕ) (d : Bytes) → used ≤ length d → Written (take used d) d used d
 in_use used d h = record { count = sym (length-take-le used d h); fits = h; buffer = sym (take-append-drop used d) }
 
-module _ (n : ℤ) (d : Bytes) (used : ℕ) {text : Put} {last : Bytes} (fits : SFits w64 n) (p : Puts (decimal (to_z w64 (of_z w64 n))) (rest used d) text last) (room : used + 20 ≤ length d) where
+module _ (n : ℤ) (d : Bytes) (used : ℕ) {text : Option ℕ} {last : Bytes} (fits : SFits w64 n) (p : Puts (decimal (to_z w64 (of_z w64 n))) (rest used d) text last) (room : used + 20 ≤ length d) where
   size : length (decimal (to_z w64 (of_z w64 n))) ≡ length (decimal n)
   size = ap (λ (z : ℤ). length (decimal z)) (to_z-of_z w64 n fits)
 
-  pub text_put : {len : ℕ} → text ≡ Wrote len → TextPut n d used (with_rest used d last) (used + len)
+  pub text_put : {len : ℕ} → text ≡ Some len → TextPut n d used (with_rest used d last) (used + len)
   text_put {len} told =
       let m : ℤ = to_z w64 (of_z w64 n) in
       let w : Written (decimal m) (rest used d) len last = was_wrote p told in
@@ -89,10 +81,10 @@ module _ (n : ℤ) (d : Bytes) (used : ℕ) {text : Put} {last : Bytes} (fits : 
         same = same_length j;
       }
 
-  pub no_room : text ≡ Full → TextPut n d used (with_rest used d last) used
+  pub no_room : text ≡ None → TextPut n d used (with_rest used d last) used
   no_room told = absurd (omega (arith, (was_full p told).long, size, decimal_few n fits.sfits, length_rest used d))
 
-  pub text_sum : {len : ℕ} → text ≡ Wrote len → length d * 1 < 2 ^ 63 → used + len < 2 ^ 64
+  pub text_sum : {len : ℕ} → text ≡ Some len → length d * 1 < 2 ^ 63 → used + len < 2 ^ 64
   text_sum told l = omega (arith, (was_wrote p told).count, size, decimal_few n fits.sfits)
 
 -- THE WRITE of the key at place 2 of the table
@@ -103,24 +95,7 @@ counter_fits p d start {a} {l} {x} a-is l-is x-is k h = record {
   value_in = ap (λ (y : ℕ). value_inside start y d) (add-one x) ∙ le-leb (start + x) (length d) (omega arith);
 }
 
-pub counter_put : (p : List ℕ) (d : Bytes) (start : ℕ) {a l x : ℕ} {own own' : List ℕ} {rows r : ℕ} → a ≡ get_or p 2 0 → l ≡ get_or p 3 0 → x ≡ length d - start
-    → OwnPut own own' d rows (part a l d) (value_of_word (x + 1) (part start (x + 1 - 1) d)) r
-    → OwnPut own own' d rows (key_part p d 2) (some (part start (length d - start) d)) r
-counter_put p d start {a} {l} {x} {own} {own'} {rows} {r} a-is l-is x-is o =
-    let m : x + 1 - 1 ≡ x = omega arith in
-    let e : value_of_word (x + 1) (part start (x + 1 - 1) d) ≡ some (part start (length d - start) d) =
-    ap (λ (y : ℕ). value_of_word y (part start (x + 1 - 1) d)) (add-one x) ∙ ap (λ (y : ℕ). some (part start y d)) (m ∙ x-is) in
-    subst (λ (t : Option Value). OwnPut own own' d rows (key_part p d 2) t r) e
-    (subst (λ (t : Key). OwnPut own own' d rows t (value_of_word (x + 1) (part start (x + 1 - 1) d)) r) (λ z. part (a-is z) (l-is z) d) o)
-
 -- THE COUNTER SET
--- the data in use, as `&data[..used]` lends it
-pub lent_used : (used : ℕ) (d : Bytes) → used + 20 ≤ length d → used ≡ length (take used d)
-lent_used used d h = sym (length-take-le used d (omega arith))
-
-pub lent_text : (n : ℤ) (used : ℕ) (d : Bytes) {d' : Bytes} {e : ℕ} → TextPut n d used d' e → e ≡ length (take e d')
-lent_text n used d {d'} {e} t = sym (length-take-le e d' t.inside)
-
 -- z is n as the callees read it
 module _ (p : List ℕ) {own : List ℕ} (d : Bytes) (a : Walked) (o : Own own (take a.used d) a.rows) (key : KeyIn p (take a.used d) 2) (room : a.used + 20 ≤ length d)
     {n z : ℤ} {e : ℕ} {d' : Bytes} (z-is : z ≡ n) (t : TextPut z d a.used d' e) where
@@ -143,21 +118,12 @@ module _ (p : List ℕ) {own : List ℕ} (d : Bytes) (a : Walked) (o : Own own (
   pub counter_own : Own own (take e d') a.rows
   counter_own = subst (λ (s : Bytes). Own own s a.rows) (sym t.is) (own_append (decimal z) o)
 
-  pub counter_key : KeyIn p (take e d') 2
-  counter_key = record {
-    words_in = key.words_in;
-    key_in = omega (arith, key.key_in, ap length t.is, length-append (take a.used d) (decimal z));
-  }
-
-  pub counter_start : a.used ≤ length (take e d')
-  counter_start = omega (arith, ap length t.is, length-append (take a.used d) (decimal z), front)
-
-  pub counter_set : {own' : List ℕ} {rows : ℕ} {next : Put} {out out' : Bytes} → Adds (encode (Integer z)) a.put out next out'
-      → OwnPut own own' (take e d') a.rows (key_part p (take e d') 2) (some (part a.used (length (take e d') - a.used) (take e d'))) rows
+  pub counter_set : {own' : List ℕ} {rows : ℕ} {next : Option ℕ} {out out' : Bytes} → Adds (encode (Integer z)) a.put out next out'
+      → OwnPut own own' (take e d') a.rows (key_part p (take e d') 2) (Some (part a.used (length (take e d') - a.used) (take e d'))) rows
       → CounterSet (key_part p (take a.used d) 2) n own d out a own' d' out' (record { rows = rows; used = e; put = next })
   counter_set s u = record {
     kept = u.kept;
-    writes = u.is ∙ (λ i. update (key_same i) (some (some (value_same i))) (writes_same i)) ∙ sym (last_one (own_writes own (take a.used d) a.rows) (key_part p (take a.used d) 2, some (decimal n)));
+    writes = u.is ∙ (λ i. update (key_same i) (Some (Some (value_same i))) (writes_same i)) ∙ sym (last_one (own_writes own (take a.used d) a.rows) (key_part p (take a.used d) 2, Some (decimal n)));
     few = u.most;
     text = subst (λ (v : ℤ). TextPut v d a.used d' e) z-is t;
     adds = same_added (ap (λ (v : ℤ). encode (Integer v)) (sym z-is)) s;
@@ -178,7 +144,7 @@ counter_place {p} {s} {count} ps least = part_in p s count 1 ps (omega arith)
 
 module _ (w : List ℕ) (b : Bytes) (seq : ℕ) (by : ℤ) (p : List ℕ) (count : ℕ) {own : List ℕ} (d : Bytes) (a : Walked)
     (o : Own own (take a.used d) a.rows) (ps : PartsIn p (take a.used d) count) (least : 2 ≤ count) where
-  module _ {h : Number} (h-is : h ≡ held (reader_of own (take a.used d) a.rows w b seq (name_at p count (take a.used d)))) where
+  module _ {h : Option ℤ} (h-is : h ≡ held (reader_of own (take a.used d) a.rows w b seq (name_at p count (take a.used d)))) where
     effect_is : {e : Effect} → raised (name_at p count (take a.used d)) by h ≡ e → counter_effect by (reader_of own (take a.used d) a.rows w b seq) (arguments_at 0 count p (take a.used d)) ≡ e
     unfolding counter_effect
     effect_is e = sym (ap (raised (name_at p count (take a.used d)) by) h-is) ∙ e
@@ -201,26 +167,26 @@ module _ (w : List ℕ) (b : Bytes) (seq : ℕ) (by : ℤ) (p : List ℕ) (count
           same_data = refl;
         })
 
-    pub counter_bad : {r : Walked} {out out' : Bytes} → h ≡ Bad → CounterError fixed.NotInteger out a out' r
+    pub counter_bad : {r : Walked} {out out' : Bytes} → h ≡ None → CounterError fixed.NotInteger out a out' r
         → Advanced (counter_effect by (reader_of own (take a.used d) a.rows w b seq) (arguments_at 0 count p (take a.used d))) (count - 1) own d out a own d out' r
     unfolding fixed_reply
     counter_bad e x = not_set fixed.NotInteger (raised_bad (name_at p count (take a.used d)) by e) x
 
     -- x and y are n and `by` as the sum reads them
-    module _ {n x y : ℤ} {sum : Number} (is : h ≡ Int n) (x-is : x ≡ n) (y-is : y ≡ by) (sum_is_lem : sum ≡ number_of (x +ℤ y)) where
-      pub counter_over : {r : Walked} {out out' : Bytes} → sum ≡ Bad → CounterError fixed.Overflow out a out' r
+    module _ {n x y : ℤ} {sum : Option ℤ} (is : h ≡ Some n) (x-is : x ≡ n) (y-is : y ≡ by) (sum_is_lem : sum ≡ number_of (x +ℤ y)) where
+      pub counter_over : {r : Walked} {out out' : Bytes} → sum ≡ None → CounterError fixed.Overflow out a out' r
           → Advanced (counter_effect by (reader_of own (take a.used d) a.rows w b seq) (arguments_at 0 count p (take a.used d))) (count - 1) own d out a own d out' r
       unfolding fixed_reply
       counter_over e s = not_set fixed.Overflow (raised_over (name_at p count (take a.used d)) by is x-is y-is sum_is_lem e) s
 
       -- a number sets the write
-      pub counter_raised : {s t : ℤ} {r : Walked} {own' : List ℕ} {d' out out' : Bytes} → sum ≡ Int s → t ≡ s → CounterSet (key_part p (take a.used d) 2) t own d out a own' d' out' r
+      pub counter_raised : {s t : ℤ} {r : Walked} {own' : List ℕ} {d' out out' : Bytes} → sum ≡ Some s → t ≡ s → CounterSet (key_part p (take a.used d) 2) t own d out a own' d' out' r
           → Advanced (counter_effect by (reader_of own (take a.used d) a.rows w b seq) (arguments_at 0 count p (take a.used d))) (count - 1) own d out a own' d' out' r
       counter_raised {s} {t} {r} {d' = d'} e t-is q =
           same_advanced (count - 1) (effect_is (raised_to (name_at p count (take a.used d)) by is x-is y-is sum_is_lem e))
           (record {
             kept = q.kept;
-            writes = q.writes ∙ (λ i. last_writes (own_writes own (take a.used d) a.rows) ((argument_is p (take a.used d) count 1 (omega arith) refl i, some (decimal (t-is i))) ∷ []));
+            writes = q.writes ∙ (λ i. last_writes (own_writes own (take a.used d) a.rows) ((argument_is p (take a.used d) count 1 (omega arith) refl i, Some (decimal (t-is i))) ∷ []));
             few = omega (arith, q.few);
             data_kept = sym (take-take a.used r.used d' (omega (arith, q.text.end_is))) ∙ ap (take a.used) q.text.is ∙ take_at (take a.used d) (decimal t) a.used (length-take-le a.used d (omega (arith, q.text.inside, q.text.end_is, q.text.same)));
             used_more = omega (arith, q.text.end_is);

@@ -9,7 +9,6 @@ use mir.Syntax.{w64}
 use mir.Val.{SFits, to_z, of_z}
 use mir.ValLaws.{to_z-of_z}
 use Rattle.base_key.specs.Bytes.{Bytes}
-use Rattle.base_writing.specs.declared.Put.{Put}
 use Rattle.base_writing.specs.Puts.{Adds}
 use Rattle.base_writing.proofs.Puts.{same_added}
 use Rattle.resp_spec.specs.Reply.{Integer, encode}
@@ -19,12 +18,13 @@ use Rattle.command_spec.specs.Places.{arguments_at, PartsIn}
 use Rattle.command_spec.proofs.PlaceLaws.{arguments_of}
 use Rattle.command_lookup.proofs.Arguments.{live_within}
 use Rattle.command_meaning.specs.Kinds.{live_reply}
+use Rattle.std.specs.Prelude.{Option}
 
 module _ (r : Reader) (p : List ℕ) (d : Bytes) (count : ℕ) {n : ℕ} (n-is : n ≡ live r (arguments_at 1 (count - 1) p d)) where
   pub live_small : PartsIn p d count → length p * 8 < 2 ^ 63 → n < 2 ^ 63
   live_small i h = omega (arith, i.table, live_within r 1 (count - 1) p d)
 
-  pub live_replied : {z : ℤ} {put after : Put} {entry exit : Bytes} → z ≡ pos n → 1 ≤ count → PartsIn p d count → length p * 8 < 2 ^ 63
+  pub live_replied : {z : ℤ} {put after : Option ℕ} {entry exit : Bytes} → z ≡ pos n → 1 ≤ count → PartsIn p d count → length p * 8 < 2 ^ 63
       → Adds (encode (Integer (to_z w64 (of_z w64 z)))) put entry after exit → Adds (encode (live_reply r (arguments_at 0 count p d))) put entry after exit
   unfolding live_reply
   live_replied {z} z-is h i l a =

@@ -1,12 +1,10 @@
 -- What the commands that set writes leave, from what their steps answer. Assumes nothing.
-use Prim.Native.Nat.{ℕ, ◌+◌, ◌-◌, ◌*◌, ◌/◌, ◌≤◌}
+use Prim.Native.Nat.{ℕ, ◌-◌, ◌/◌, ◌≤◌}
 use native.Mathlib.Omega.{arith}
 use mathlib.Core.Path.{◌≡◌, refl, sym, ap, ◌∙◌}
 use mathlib.Core.List.{List, map}
-use lib.ListN.{length}
 use Rattle.command_spec.proofs.PlaceLaws.{arguments_of}
 use Rattle.base_key.specs.Bytes.{Bytes}
-use Rattle.base_writing.specs.declared.Put.{Put}
 use Rattle.base_writing.specs.Puts.{Adds}
 use Rattle.resp_spec.specs.Reply.{encode}
 use Rattle.store_memtable.specs.Table.{last_writes}
@@ -21,9 +19,7 @@ use Rattle.command_writes.specs.Changes.{OwnPuts}
 use Rattle.exec_queued.specs.declared.Walked.{Walked}
 use Rattle.command_meaning.specs.Kinds.{live_reply, pairs_effect, tombstones_effect}
 use Rattle.exec_queued.specs.Walks.{Ran}
-
-pub pairs_room : (rows count : ℕ) (own : List ℕ) → 4 * (rows + (count - 1)) ≤ length own → InPairs count → 4 * (rows + (count - 1) / 2) ≤ length own
-pairs_room rows count own h i = omega arith
+use Rattle.std.specs.Prelude.{Option}
 
 pub pairs_least : {count : ℕ} → InPairs count → 1 ≤ count
 pairs_least i = omega (arith, i.least)
@@ -37,7 +33,7 @@ module _ (p : List ℕ) (d : Bytes) (count : ℕ) (h : 1 ≤ count) where
   unfolding tombstones_at
   tombstones_are = ap (map tombstone) (sym (arguments_of p d count h))
 
-module _ (p : List ℕ) (d : Bytes) (count : ℕ) {own own' : List ℕ} {out out' : Bytes} {a : Walked} {rows : ℕ} {next : Put} where
+module _ (p : List ℕ) (d : Bytes) (count : ℕ) {own own' : List ℕ} {out out' : Bytes} {a : Walked} {rows : ℕ} {next : Option ℕ} where
   pub pairs_ran : InPairs count → Adds (encode (fixed_reply Ok)) a.put out next out' → OwnPuts own own' d a.rows (pairs_at 1 (count - 1) p d) ((count - 1) / 2) rows
       → Ran (pairs_effect (arguments_at 0 count p d)) (count - 1) d own out a own' out' (record { rows = rows; used = a.used; put = next })
   unfolding pairs_effect fixed_reply

@@ -1,6 +1,6 @@
 -- What running a queued command leaves.
 use Rattle.std.specs.Prelude.{ℕ, ◌+◌, ◌≤◌, ◌≡◌, List, [], ◌∷◌, ◌++◌, ℤ, length, take}
-use Rattle.std.proofs.Math.Option.{some}
+use Rattle.std.specs.Prelude.{Some}
 use Rattle.base_key.specs.Bytes.{Bytes}
 use Rattle.base_key.specs.Keys.{Key}
 use Rattle.base_writing.specs.Puts.{Adds}
@@ -33,7 +33,7 @@ pub record TextPut (n : ℤ) (d : Bytes) (used : ℕ) (d' : Bytes) (e : ℕ) : T
 -- a counter k set to n, its text written behind the data in use
 pub record CounterSet (k : Key) (n : ℤ) (own : List ℕ) (d out : Bytes) (a : Walked) (own' : List ℕ) (d' out' : Bytes) (r : Walked) : Type 0 where
   pub kept : Own own' (take r.used d') r.rows
-  pub writes : own_writes own' (take r.used d') r.rows ≡ last_writes (own_writes own (take a.used d) a.rows) ((k, some (decimal n)) ∷ [])
+  pub writes : own_writes own' (take r.used d') r.rows ≡ last_writes (own_writes own (take a.used d) a.rows) ((k, Some (decimal n)) ∷ [])
   pub few : r.rows ≤ a.rows + 1
   pub text : TextPut n d a.used d' r.used
   pub adds : Adds (encode (Integer n)) a.put out r.put out'

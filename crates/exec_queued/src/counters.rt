@@ -1,44 +1,38 @@
 // INCR, DECR and INCRBY inside EXEC.
 ghost use Rattle.std.specs.Prelude.{◌≡◌, ◌+◌, ◌-◌, ◌*◌, ◌≤◌, length, take};
-ghost use Rattle.std.proofs.Math.Option.{some};
+ghost use Rattle.std.specs.Prelude.{Some};
 ghost use Rattle.base_key.specs.Bytes.{part};
-ghost use Rattle.store_memtable.specs.Rows.{Valid};
 ghost use Rattle.group_spec.specs.Settling.{key_part, KeyIn};
 ghost use Rattle.command_spec.specs.Command.{argument, held};
 ghost use Rattle.command_spec.specs.Places.{arguments_at, PartsIn};
 ghost use Rattle.command_writes.specs.Own.{Own, reader_of};
+ghost use Rattle.command_lookup.specs.Reads.{read_through};
 ghost use Rattle.command_writes.specs.Changes.{OwnPut};
 ghost use Rattle.command_meaning.specs.Kinds.{counter_effect};
 ghost use Rattle.exec_queued.specs.Walks.{TextPut, CounterSet, CounterError, Advanced};
 
 use crate::Walked;
-use base_number::{Number, integer};
-use base_writing::Put;
+use base_number::integer;
 use command_lookup::counter;
-use command_meaning::arguments::argument;
+use command_lookup::reader::Reader;
+use command_meaning::arguments::Request;
 use command_spec::Fixed;
 use command_writes::write;
 use store_memtable::read;
+use store_memtable::store::Store;
 
 // The number that the counter that argument 1 names holds.
-fn counter_number(
-    places: &[u64],
-    count: usize,
-    own: &[u64],
-    rows: usize,
-    data: &[u8],
-    words: &[u64],
-    bytes: &[u8],
-    seq: u64,
-) -> Number
-    requires own { Own own.now «data».now rows }
-    requires valid { Valid words.now bytes.now }
-    requires parts_in { PartsIn places.now «data».now count }
+fn counter_number(reader: &Reader, places: &[u64], count: usize) -> Option<i64>
+    requires parts_in { PartsIn places.now reader.now.«data».now count }
     requires le_count { 2 ≤ count }
-    ensures { result ≡ held (reader_of own.now «data».now rows words.now bytes.now seq (argument 1 (arguments_at 0 count places.now «data».now))) }
+    ensures { result ≡ held (read_through reader.now (argument 1 (arguments_at 0 count places.now reader.now.«data».now))) }
 {
-    let name = argument(data, places, count, 1);
-    counter::held_number(own, rows, data, words, bytes, seq, name)
+    let request = Request {
+        input: reader.data,
+        places,
+        count,
+    };
+    counter::held_number(reader, request.argument(1))
 }
 
 // Writes the text of a number behind the data in use, and answers where the data in use ends then.
@@ -47,7 +41,7 @@ fn put_text(data: &mut [u8], used: usize, n: i64) -> usize
     ensures { TextPut n «data».old used «data».new result }
 {
     let text = base_decimal::put_decimal(&mut data[used..], n);
-    let Put::Wrote(len) = text else {
+    let Some(len) = text else {
         return used;
     };
     used + len
@@ -59,7 +53,7 @@ fn put_counter(places: &[u64], own: &mut [u64], rows: usize, data: &[u8], start:
     requires key_in { KeyIn places.now «data».now 2 }
     requires start_in_bounds { start ≤ length «data».now }
     requires rows_in_bounds { 4 * rows + 4 ≤ length own.old }
-    ensures { OwnPut own.old own.new «data».now rows (key_part places.now «data».now 2) (some (part start (length «data».now - start) «data».now)) result }
+    ensures { OwnPut own.old own.new «data».now rows (key_part places.now «data».now 2) (Some (part start (length «data».now - start) «data».now)) result }
 {
     let key_start = read::word(places, 2);
     let key_len = read::word(places, 3);
@@ -82,29 +76,18 @@ fn set_counter(
     requires used_in_bounds { at.used + 20 ≤ length «data».old }
     ensures { CounterSet (key_part places.now (take at.used «data».old) 2) n own.old «data».old out.old at own.new «data».new out.new result }
 {
-    let used = at.used;
-    let put = at.put;
-    let next = resp_items::then_int(out, put, n);
-    let end = put_text(data, used, n);
-    let rows = put_counter(places, own, at.rows, &data[..end], used);
-    Walked {
-        rows: rows,
-        used: end,
-        put: next,
-    }
+    let put = resp_items::then_int(out, at.put, n);
+    let used = put_text(data, at.used, n);
+    let rows = put_counter(places, own, at.rows, &data[..used], at.used);
+    Walked { rows, used, put }
 }
 
 // A counter answered by an error: nothing is set.
 fn answer_error(out: &mut [u8], at: Walked, which: Fixed) -> Walked
     ensures { CounterError which out.old at out.new result }
 {
-    let put = at.put;
-    let next = command_errors::then_fixed(out, put, which);
-    Walked {
-        rows: at.rows,
-        used: at.used,
-        put: next,
-    }
+    let put = command_errors::then_fixed(out, at.put, which);
+    Walked { put, ..at }
 }
 
 // The number read and the checked sum, or the error.
@@ -114,35 +97,30 @@ pub fn run_counter(
     by: i64,
     own: &mut [u64],
     data: &mut [u8],
-    words: &[u64],
-    bytes: &[u8],
+    store: &Store,
     seq: u64,
     out: &mut [u8],
     at: Walked,
 ) -> Walked
     requires own { Own own.old (take at.used «data».old) at.rows }
-    requires valid { Valid words.now bytes.now }
     requires parts_in { PartsIn places.now (take at.used «data».old) count }
     requires le_count { 2 ≤ count }
     requires count_in_bounds { 4 * (at.rows + (count - 1)) ≤ length own.old }
     requires used_in_bounds { at.used + 20 ≤ length «data».old }
-    ensures { Advanced (counter_effect by (reader_of own.old (take at.used «data».old) at.rows words.now bytes.now seq) (arguments_at 0 count places.now (take at.used «data».old))) (count - 1) own.old «data».old out.old at own.new «data».new out.new result }
+    ensures { Advanced (counter_effect by (reader_of own.old (take at.used «data».old) at.rows store.now.words.now store.now.bytes.now seq) (arguments_at 0 count places.now (take at.used «data».old))) (count - 1) own.old «data».old out.old at own.new «data».new out.new result }
 {
-    let used = at.used;
-    let held = counter_number(
-        places,
-        count,
+    let reader = Reader {
         own,
-        at.rows,
-        &data[..used],
-        words,
-        bytes,
+        rows: at.rows,
+        data: &data[..at.used],
+        store: *store,
         seq,
-    );
-    let Number::Int(number) = held else {
+    };
+    let held = counter_number(&reader, places, count);
+    let Some(number) = held else {
         return answer_error(out, at, Fixed::NotInteger);
     };
-    let Number::Int(sum) = integer::checked_sum(number, by) else {
+    let Some(sum) = integer::checked_sum(number, by) else {
         return answer_error(out, at, Fixed::Overflow);
     };
     set_counter(places, own, data, out, at, sum)

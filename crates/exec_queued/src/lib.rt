@@ -6,12 +6,10 @@ pub mod live;
 pub mod pairs;
 pub mod tombstones;
 
-use base_writing::Put;
-
 // How far an EXEC has come: the rows of its own writes, the bytes of the data in use, and the reply so far.
 #[derive(Clone, Copy)]
 pub struct Walked {
     pub rows: usize,
     pub used: usize,
-    pub put: Put,
+    pub put: Option<usize>,
 }

@@ -25,12 +25,7 @@ pub fn run_pairs(
     requires count_in_bounds { 4 * (at.rows + (count - 1)) ≤ length own.old }
     ensures { Ran (pairs_effect (arguments_at 0 count places.now «data».now)) (count - 1) «data».now own.old out.old at own.new out.new result }
 {
-    let put = at.put;
-    let next = command_errors::then_fixed(out, put, Fixed::Ok);
+    let put = command_errors::then_fixed(out, at.put, Fixed::Ok);
     let rows = arguments::put_pairs(own, at.rows, data, places, 1, count);
-    Walked {
-        rows: rows,
-        used: at.used,
-        put: next,
-    }
+    Walked { rows, put, ..at }
 }

@@ -5,7 +5,6 @@ use mathlib.Core.List.{List}
 use Rattle.command_meaning.proofs.KindLaws.{least_one}
 use Rattle.command_spec.proofs.PlaceLaws.{arguments_of}
 use Rattle.base_key.specs.Bytes.{Bytes}
-use Rattle.base_writing.specs.declared.Put.{Put}
 use Rattle.base_writing.specs.Puts.{Adds}
 use Rattle.base_writing.proofs.Puts.{same_added}
 use Rattle.resp_spec.specs.Reply.{Reply, BulkString, array, bulk_or, encode}
@@ -19,8 +18,9 @@ use Rattle.command_lookup.specs.See.{value_replies}
 use Rattle.command_meaning.specs.declared.Read.{Read}
 use Rattle.command_meaning.specs.declared.Read.TheVariants.{Value, Live, Values, Echo, Says}
 use Rattle.command_meaning.specs.Kinds.{live_reply, read_reply, least_read}
+use Rattle.std.specs.Prelude.{Option}
 
-module _ (own : List ℕ) (d : Bytes) (rows : ℕ) (w : List ℕ) (b : Bytes) (s : ℕ) (p : List ℕ) (count : ℕ) (q : Read) {put after : Put} {entry exit : Bytes} where
+module _ (own : List ℕ) (d : Bytes) (rows : ℕ) (w : List ℕ) (b : Bytes) (s : ℕ) (p : List ℕ) (count : ℕ) (q : Read) {put after : Option ℕ} {entry exit : Bytes} where
   as_reply : {x : Reply} {t : Read} → q ≡ t → x ≡ read_reply t (reader_of own d rows w b s) (arguments_at 0 count p d) → Adds (encode x) put entry after exit
       → Adds (encode (read_reply q (reader_of own d rows w b s) (arguments_at 0 count p d))) put entry after exit
   as_reply e x-is a =

@@ -6,10 +6,8 @@ use mathlib.Core.Bool.{Bool, true, false, cond}
 use mathlib.Core.List.{List, ◌++◌}
 use lib.Dec.{leb, ltb, eqb}
 use lib.ListN.{length, get_or, take, replicate, length-map}
-use lib.Seq.{length-take-le}
 use Rattle.base_key.specs.Bytes.{Bytes, ◌and◌, part, total}
 use Rattle.base_key.proofs.Bytes.{and_left, and_right}
-use Rattle.base_writing.specs.declared.Put.{Put}
 use Rattle.base_writing.specs.Puts.{Puts}
 use Rattle.resp_spec.specs.Reply.{NilArray, array, head, encode}
 use Rattle.store_memtable.specs.Table.{Write}
@@ -35,13 +33,12 @@ use Rattle.exec_decision.specs.Decided.{Decided, decide_queue}
 use Rattle.exec_decision.proofs.Executes.{judged_to, executes, queue_silent, queue_failed, queue_conflict, queue_judged}
 use Rattle.exec_finish.specs.declared.Prepared.{Prepared}
 use Rattle.exec_finish.specs.Leaving.{Leaves}
-use Rattle.exec_finish.specs.Deciding.{prepared_by, Counted, Judges, Decides, Applies}
+use Rattle.exec_finish.specs.Deciding.{prepared_by, Judges, Decides, Applies}
 use Rattle.exec_finish.proofs.DecideLaws.{decides_prepared, decides_judged}
-use Rattle.exec_run.specs.declared.Early.{Early}
-use Rattle.exec_run.specs.declared.Early.TheVariants.{Known, Runs}
 use Rattle.exec_run.specs.Progress.{Progress, begun, advance_all, commands_in, QueueRan}
 use Rattle.exec_run.specs.Execution.{LaidOut, exec_served, exec_decided, ExecReady, BeforeQueue}
 use Rattle.exec_run.proofs.Progress.{ended, ended_writes, replies_are}
+use Rattle.std.specs.Prelude.{Option, None, Some}
 
 -- THE TESTS of a session
 queue_tests : (last : ℕ) (s : List ℕ) (sb : Bytes) → session_ok last s sb ≡ true → (all_positive (part 68 (get_or s 3 0) s) ≡ true) × (all_queueable (queue_in s sb) ≡ true)
@@ -66,7 +63,7 @@ unfolding exec_decided
 decided_by_lem s sb w b own d out {f} {r} {out'} is l = subst (λ (x : Decided). Decides x w out own d r out') (sym is) l
 
 -- the mark
-pub exec_failed : (s : List ℕ) (sb : Bytes) (w b own : List ℕ) (d out : Bytes) {f : Bool} {put : Put} {mid : Bytes} {r : Prepared}
+pub exec_failed : (s : List ℕ) (sb : Bytes) (w b own : List ℕ) (d out : Bytes) {f : Bool} {put : Option ℕ} {mid : Bytes} {r : Prepared}
     → Valid w b → last_word w < 2 ^ 64 → out ≡ replicate (length out) 0 → f ≡ yes? (get_or s 1 0) → f ≡ true → Puts (encode (fixed_reply ExecAbort)) out put mid → r ≡ prepared_by put 255 0 0
     → Decides (exec_decided (length out) s sb w b) w out own d r mid
 unfolding session_from fixed_reply
@@ -79,7 +76,7 @@ unfolding session_from
 unmarked_is s sb e = ap yes? e
 
 -- a watched key that has moved
-pub exec_watched : (s : List ℕ) (sb : Bytes) (w b own : List ℕ) (d out : Bytes) {f t : Bool} {put : Put} {mid : Bytes} {r : Prepared}
+pub exec_watched : (s : List ℕ) (sb : Bytes) (w b own : List ℕ) (d out : Bytes) {f t : Bool} {put : Option ℕ} {mid : Bytes} {r : Prepared}
     → Valid w b → last_word w < 2 ^ 64 → out ≡ replicate (length out) 0 → f ≡ yes? (get_or s 1 0) → f ≡ false
     → t ≡ any_moved (versions_in w b) (session_from s sb).watch → t ≡ true → Puts (encode NilArray) out put mid → r ≡ prepared_by put 1 0 0
     → Decides (exec_decided (length out) s sb w b) w out own d r mid
@@ -106,20 +103,17 @@ exec_ready last s sb w b out o ok v z f-is f-no t-is t-no = record {
 -- WHAT IS KNOWN BEFORE THE QUEUE RUNS, by the code's tests
 module _ (s : List ℕ) (sb : Bytes) (w b : List ℕ) (out : Bytes) where
   pub known_before : {x : Prepared} {out' : Bytes} → ((own : List ℕ) (d : Bytes) → Decides (exec_decided (length out) s sb w b) w out own d x out')
-      → BeforeQueue s sb w b out (Known x) out'
+      → BeforeQueue s sb w b out (Some x) out'
   known_before {x} {out'} k = record {
     known = λ p e own d. let is : x ≡ p = cc in subst (λ (y : Prepared). Decides (exec_decided (length out) s sb w b) w out own d y out') is (k own d);
     runs = λ e. let z : ◌≡◌ {A = ℕ} 0 1 = cc in absurd (omega arith);
   }
 
-  pub runs_before : {out' : Bytes} → out' ≡ out → ExecReady s sb w b out → BeforeQueue s sb w b out Runs out'
+  pub runs_before : {out' : Bytes} → out' ≡ out → ExecReady s sb w b out → BeforeQueue s sb w b out None out'
   runs_before is r = record {
     known = λ p e. let z : ◌≡◌ {A = ℕ} 0 1 = cc in absurd (omega arith);
     runs = λ e. (is, r);
   }
-
-  pub ready_after : {e : Early} {out' : Bytes} → BeforeQueue s sb w b out e out' → e ≡ Runs → ExecReady s sb w b out'
-  ready_after k e = let r = k.runs e in subst (λ (o : Bytes). ExecReady s sb w b o) (sym r.0) r.1
 
 -- AFTER THE QUEUE
 module _ (s : List ℕ) (sb : Bytes) (w b : List ℕ) (out : Bytes) (x₀ : ExecReady s sb w b out)
@@ -150,13 +144,7 @@ module _ (s : List ℕ) (sb : Bytes) (w b : List ℕ) (out : Bytes) (x₀ : Exec
       (decides_judged w b own' d₂ out x a.rows a.used x₀.valid h ran.kept ran.used_in x₀.cleared
       (subst (λ (t : Bytes). Puts t out a.put mid) reply_is ran.puts) j))
 
-pub counted : (w b : List ℕ) → Valid w b → Counted w
-counted w b v = record { words = omega (arith, v.words_hold); count_fits = v.count_fits; used_fits = v.used_fits }
-
 -- AND APPLIED
-pub own_lent : {f : Decided} {w : List ℕ} {out : Bytes} {own : List ℕ} {d : Bytes} {r : Prepared} {out' : Bytes} → Decides f w out own d r out' → r.end ≡ length (take r.end d)
-own_lent {d = d} {r = r} k = sym (length-take-le r.end d k.used_in)
-
 pub exec_applied : (s : List ℕ) (sb : Bytes) (w b : List ℕ) (used : ℕ) (out own d : Bytes) {r : Prepared} {out' : Bytes} {w' b' s' : List ℕ} {x : Answer}
     → Held s sb → Decides (exec_decided (length out) s sb w b) w out own d r out'
     → Applies (own_writes own (take r.end d) r.rows) r used w b s w' b' s' x → Leaves (exec_served (length out) used s sb w b) out w b s sb x out' w' b' s'
@@ -169,11 +157,7 @@ exec_applied s sb w b used out own d {r} {out'} {w'} {b'} {s'} {x} held k l =
     (l.leaves (decide_queue (length out) q st t) out out' sb held k.number k.size k.writes k.reply (queue_silent (length out) q st t))
 
 -- before the queue, and after it
-module _ (s : List ℕ) (sb : Bytes) (w b : List ℕ) (used : ℕ) (out : Bytes) {e : Early} {mid : Bytes} (k : BeforeQueue s sb w b out e mid) where
-  pub known_applied : {p : Prepared} (own d : Bytes) {w' b' s' : List ℕ} {x : Answer} → e ≡ Known p → Held s sb
+module _ (s : List ℕ) (sb : Bytes) (w b : List ℕ) (used : ℕ) (out : Bytes) {e : Option Prepared} {mid : Bytes} (k : BeforeQueue s sb w b out e mid) where
+  pub known_applied : {p : Prepared} (own d : Bytes) {w' b' s' : List ℕ} {x : Answer} → e ≡ Some p → Held s sb
       → Applies (own_writes own (take p.end d) p.rows) p used w b s w' b' s' x → Leaves (exec_served (length out) used s sb w b) out w b s sb x mid w' b' s'
   known_applied {p} own d is held l = exec_applied s sb w b used out own d held (k.known p is own d) l
-
-  pub runs_applied : {out' : Bytes} {w' b' s' : List ℕ} {x : Answer} → e ≡ Runs
-      → Leaves (exec_served (length mid) used s sb w b) mid w b s sb x out' w' b' s' → Leaves (exec_served (length out) used s sb w b) out w b s sb x out' w' b' s'
-  runs_applied {out'} {w'} {b'} {s'} {x} is l = subst (λ (o : Bytes). Leaves (exec_served (length o) used s sb w b) o w b s sb x out' w' b' s') (k.runs is).0 l

@@ -2,22 +2,20 @@
 use Prim.Native.Nat.{ℕ, zero, suc, ◌+◌, ◌-◌, ◌*◌, ◌≤◌, ◌<◌}
 use native.Mathlib.Omega.{arith}
 use mathlib.Core.Path.{◌≡◌, sym, ap, ◌∙◌, subst}
-use mathlib.Core.Bool.{Bool, true, false}
+use mathlib.Core.Bool.{true}
 use mathlib.Core.List.{List, [], ◌∷◌, ◌++◌, map}
-use borrow.Author.Tests.{leb-true, le-leb, lt-leb}
-use lib.Dec.{leb}
 use lib.ListN.{length, get_or, take, drop, length-append, length-drop}
 use lib.Seq.{take_at}
 use Rattle.store_memtable.specs.Moves.{put_at}
-use Rattle.base_key.proofs.Bytes.{and_left, and_right, length_part_lem}
+use Rattle.base_key.proofs.Bytes.{length_part_lem}
 use Rattle.command_spec.proofs.PlaceLaws.{places_length}
-use Rattle.base_key.specs.Bytes.{Bytes, ◌and◌, part, concat, total}
+use Rattle.base_key.specs.Bytes.{Bytes, part, concat, total}
 use Rattle.command_spec.specs.Names.{Args}
 use Rattle.command_spec.specs.Command.{command_of}
 use Rattle.command_spec.specs.Sessions.{split_by, all_positive, all_queueable, queue_in}
 use Rattle.command_spec.specs.Lent.{capped}
 use Rattle.command_spec.specs.Held.{Held}
-use Rattle.command_spec.specs.Places.{arguments_at, PartsIn, QueueSizes, places_of, Expandable}
+use Rattle.command_spec.specs.Places.{arguments_at, PartsIn, QueueSizes, places_of}
 use Rattle.command_spec.proofs.Parts.{part_add}
 use Rattle.command_spec.proofs.SplitLaws.{split_whole}
 use Rattle.session_memory.proofs.Kept.{queue_counts}
@@ -25,7 +23,7 @@ use Rattle.session_memory.proofs.Queueing.{arguments_are, arguments_few, bytes_a
 use Rattle.session_memory.proofs.Expanding.{expanded}
 use Rattle.exec_run.specs.Progress.{Queued, requests_in, commands_in}
 use Rattle.exec_run.specs.declared.layout.Sizes.{Sizes}
-use Rattle.exec_run.specs.Execution.{SizesOf, small, WorkingMemory, LaidOut}
+use Rattle.exec_run.specs.Execution.{SizesOf, LaidOut}
 use Rattle.exec_run.proofs.WalkLaws.{grown_arguments}
 
 -- each place ends before the end of them all
@@ -56,9 +54,6 @@ module _ {s : List ℕ} {sb : Bytes} (h : Held s sb) {z : Sizes} (is : SizesOf s
   pub bytes_small : z.bytes ≤ 8192
   bytes_small = omega (arith, is.bytes, h.room)
 
-  pub expandable : (p : List ℕ) → 2 * z.arguments ≤ length p → Expandable s p z.arguments
-  expandable p l = record { words = h.words; few = omega (arith, is.arguments, h.few_arguments); room = omega (arith, lengths_are, bytes_small); table = l }
-
   pub bytes_in : 2048 + z.bytes ≤ length sb
   bytes_in = omega (arith, bytes_small, h.bytes)
 
@@ -68,9 +63,6 @@ module _ {s : List ℕ} {sb : Bytes} (h : Held s sb) {z : Sizes} (is : SizesOf s
 
   lent_length : length (part 2048 z.bytes sb) ≡ z.bytes
   lent_length = length_part_lem 2048 z.bytes sb bytes_in
-
-  pub put_room : (d : Bytes) → z.bytes + 20 * z.commands ≤ length d → 0 + length (part 2048 (2048 + z.bytes - 2048) sb) ≤ length d
-  put_room d l = omega (arith, ap length lent, lent_length)
 
   pub laid_out : (p : List ℕ) {p' : List ℕ} (d : Bytes) {d' : Bytes} → all_positive (part 68 (get_or s 3 0) s) ≡ true → all_queueable (queue_in s sb) ≡ true
       → 2 * z.arguments ≤ length p → z.bytes + 20 * z.commands ≤ length d
@@ -121,39 +113,3 @@ module _ {s : List ℕ} {sb : Bytes} (h : Held s sb) {z : Sizes} (is : SizesOf s
         room = omega (arith, size, is.commands);
         same_data = size;
       }
-
--- SMALL QUEUES
-module _ (z : Sizes) where
-  pub many_commands : 16 < z.commands → false ≡ small z
-  unfolding small ◌and◌
-  many_commands h = rw (lt-leb z.commands 16 h)
-
-  pub many_arguments : z.commands ≤ 16 → 48 < z.arguments → false ≡ small z
-  unfolding small ◌and◌
-  many_arguments few h = rw (le-leb z.commands 16 few, lt-leb z.arguments 48 h)
-
-  pub bytes_test : z.commands ≤ 16 → z.arguments ≤ 48 → leb z.bytes 1024 ≡ small z
-  unfolding small ◌and◌
-  bytes_test few short = rw (le-leb z.commands 16 few, le-leb z.arguments 48 short)
-
--- ROOM in working memory of these lengths: for a small queue, and for every queue
-pub room_small : {z : Sizes} → small z ≡ true → (p own : List ℕ) (d : Bytes) → 96 ≤ length p → 192 ≤ length own → 1344 ≤ length d → WorkingMemory z p own d
-unfolding small
-room_small {z} e p own d lp lo ld =
-    let a : Bool = leb z.commands 16 in
-    let b : Bool = leb z.arguments 48 in
-    let c : Bool = leb z.bytes 1024 in
-    let commands : z.commands ≤ 16 = leb-true z.commands 16 (and_left a (b and c) e) in
-    let arguments : z.arguments ≤ 48 = leb-true z.arguments 48 (and_left b c (and_right a (b and c) e)) in
-    let bytes : z.bytes ≤ 1024 = leb-true z.bytes 1024 (and_right b c (and_right a (b and c) e)) in
-    record { places = omega arith; writes = omega arith; bytes = omega arith }
-
-pub sizes_within : {s : List ℕ} {sb : Bytes} → Held s sb → QueueSizes s
-sizes_within h = record { words = h.words; few_commands = h.few_commands; few_arguments = h.few_arguments; room = h.room }
-
-pub room_most : {s : List ℕ} {sb : Bytes} {z : Sizes} → Held s sb → SizesOf s z → (p own : List ℕ) (d : Bytes) → 1024 ≤ length p → 2048 ≤ length own → 9472 ≤ length d → WorkingMemory z p own d
-room_most h is p own d lp lo ld = record {
-  places = omega (arith, is.arguments, h.few_arguments);
-  writes = omega (arith, is.arguments, h.few_arguments);
-  bytes = omega (arith, is.bytes, is.commands, h.room, h.few_commands);
-}

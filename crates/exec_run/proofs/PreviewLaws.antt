@@ -3,12 +3,10 @@ use Prim.Native.Nat.{ℕ, ◌+◌, ◌^◌, ◌<◌}
 use mathlib.Core.Path.{◌≡◌, sym, ap, ◌∙◌, subst}
 use mathlib.Core.Bool.{Bool, true, false, cond}
 use mathlib.Core.List.{List, []}
-use mathlib.Core.Option.{Option, none, some}
+use Rattle.std.specs.Prelude.{Option, None, Some}
 use lib.Dec.{eqb}
 use lib.ListN.{length, get_or, take, replicate}
-use borrow.Author.Tests.{eq-eqb, ne_eqb}
 use Rattle.base_key.specs.Bytes.{Bytes, bytes}
-use Rattle.base_writing.specs.declared.Put.{Put}
 use Rattle.base_writing.specs.Puts.{Puts}
 use Rattle.resp_spec.specs.Reply.{encode, err}
 use Rattle.store_memtable.specs.Layout.{last_word, store_in}
@@ -24,22 +22,10 @@ use Rattle.exec_decision.specs.Decided.{Decided, decided_reply, decide_by, decid
 use Rattle.exec_finish.specs.declared.Prepared.{Prepared}
 use Rattle.exec_finish.specs.Deciding.{prepared_by, Decides}
 use Rattle.exec_finish.proofs.DecideLaws.{decides_prepared}
-use Rattle.exec_run.specs.declared.Early.{Early}
-use Rattle.exec_run.specs.declared.Early.TheVariants.{Known, Runs}
 use Rattle.exec_run.specs.Execution.{exec_decided, BeforeQueue}
 use Rattle.exec_run.specs.Previewing.{preview_prepared, session_decided, Previews}
 
--- BY THE CODE'S TEST
-module _ (p : Prepared) (last : ℕ) where
-  pub preview_zero : {n : ℕ} → p.number ≡ 0 → n ≡ p.rows → record { number = 0; verdict = p.verdict; reply = p.reply; last = last + n } ≡ preview_prepared last p
-  unfolding preview_prepared
-  preview_zero e i = rw (i, eq-eqb p.number 0 e)
-
-  pub preview_number : {r : Preview} → (p.number ≡ 0 → ⊥) → r ≡ refused_preview p.number → r ≡ preview_prepared last p
-  unfolding preview_prepared
-  preview_number nz e = rw (ne_eqb p.number 0 nz) e
-
--- AS DEFINED: what is prepared tells what is decided
+-- What is prepared tells what is decided
 pub previews : (f : Decided) (w : List ℕ) (out own d : Bytes) {p : Prepared} {r : Preview} {out' : Bytes} → Decides f w out own d p out' → r ≡ preview_prepared (last_word w) p
     → Previews (last_word w) f out r out'
 unfolding preview_prepared preview_decided
@@ -52,32 +38,29 @@ previews f w out own d {p} {r} {out'} k e = record {
     rows_are = sym (own_count own (take p.end d) p.rows) ∙ ap length k.writes
 
 -- before the queue, and after it
-module _ (s : List ℕ) (sb : Bytes) (w b : List ℕ) (out : Bytes) {e : Early} {mid : Bytes} (k : BeforeQueue s sb w b out e mid) where
-  pub previews_known : {p : Prepared} {r : Preview} → e ≡ Known p → r ≡ preview_prepared (last_word w) p → Previews (last_word w) (exec_decided (length out) s sb w b) out r mid
+module _ (s : List ℕ) (sb : Bytes) (w b : List ℕ) (out : Bytes) {e : Option Prepared} {mid : Bytes} (k : BeforeQueue s sb w b out e mid) where
+  pub previews_known : {p : Prepared} {r : Preview} → e ≡ Some p → r ≡ preview_prepared (last_word w) p → Previews (last_word w) (exec_decided (length out) s sb w b) out r mid
   previews_known {p} is r-is = previews (exec_decided (length out) s sb w b) w out [] [] (k.known p is [] []) r-is
 
-  pub previews_run : {r : Preview} {out' : Bytes} → e ≡ Runs → Previews (last_word w) (exec_decided (length mid) s sb w b) mid r out' → Previews (last_word w) (exec_decided (length out) s sb w b) out r out'
-  previews_run {r} {out'} is l = subst (λ (o : Bytes). Previews (last_word w) (exec_decided (length o) s sb w b) o r out') (k.runs is).0 l
-
-  pub known_room : {p : Prepared} → e ≡ Known p → last_word w + p.rows < 2 ^ 64
+  pub known_room : {p : Prepared} → e ≡ Some p → last_word w + p.rows < 2 ^ 64
   known_room {p} is = (k.known p is [] []).room.seqs_free
 
 module _ (s : List ℕ) (sb : Bytes) (w b own : List ℕ) (d out : Bytes) where
   -- without MULTI
-  pub alone_decides : {put : Put} {mid : Bytes} {p : Prepared} → Valid w b → last_word w < 2 ^ 64 → out ≡ replicate (length out) 0 → Puts (encode (fixed_reply ExecAlone)) out put mid → p ≡ prepared_by put 255 0 0
+  pub alone_decides : {put : Option ℕ} {mid : Bytes} {p : Prepared} → Valid w b → last_word w < 2 ^ 64 → out ≡ replicate (length out) 0 → Puts (encode (fixed_reply ExecAlone)) out put mid → p ≡ prepared_by put 255 0 0
       → Decides (decided_reply (length out) NotTaken (encode (fixed_reply ExecAlone)) []) w out own d p mid
   alone_decides v h z p p-is = decides_prepared w b own d out (fixed_reply ExecAlone) NotTaken v h z p p-is
 
   module _ {m : Bool} (m-is : m ≡ yes? (get_or s 0 0)) where
-    queue_as : {t : Bool} → m ≡ t → (session_from s sb).queue ≡ cond t (some (queue_in s sb)) none
+    queue_as : {t : Bool} → m ≡ t → (session_from s sb).queue ≡ cond t (Some (queue_in s sb)) None
     unfolding session_from
-    queue_as e = ap (λ (t : Bool). cond t (some (queue_in s sb)) none) (sym m-is ∙ e)
+    queue_as e = ap (λ (t : Bool). cond t (Some (queue_in s sb)) None) (sym m-is ∙ e)
 
     pub previews_inside : {r : Preview} {out' : Bytes} → m ≡ true → Previews (last_word w) (exec_decided (length out) s sb w b) out r out' → Previews (last_word w) (session_decided (length out) s sb w b) out r out'
     unfolding session_decided exec_decided decide_exec
     previews_inside {r} {out'} e k = subst (λ (q : Option (List Args)). Previews (last_word w) (decide_by q (length out) (store_in w b) (session_from s sb)) out r out') (sym (queue_as e)) (unfold decide_by in k)
 
-    pub previews_outside : {put : Put} {mid : Bytes} {p : Prepared} {r : Preview} → m ≡ false → Valid w b → last_word w < 2 ^ 64 → out ≡ replicate (length out) 0
+    pub previews_outside : {put : Option ℕ} {mid : Bytes} {p : Prepared} {r : Preview} → m ≡ false → Valid w b → last_word w < 2 ^ 64 → out ≡ replicate (length out) 0
         → Puts (encode (fixed_reply ExecAlone)) out put mid → p ≡ prepared_by put 255 0 0 → r ≡ preview_prepared (last_word w) p → Previews (last_word w) (session_decided (length out) s sb w b) out r mid
     unfolding session_decided decide_exec fixed_reply
     previews_outside {put} {mid} {p} {r} e v h z k p-is r-is =

@@ -6,7 +6,6 @@ use mathlib.Core.List.{List}
 use lib.IntN.{ℤ}
 use lib.ListN.{take}
 use Rattle.base_key.specs.Bytes.{Bytes}
-use Rattle.base_writing.specs.declared.Put.{Put}
 use Rattle.base_writing.specs.Puts.{Adds}
 use Rattle.resp_spec.specs.Reply.{encode}
 use Rattle.store_memtable.specs.Table.{Reader, last_writes}
@@ -19,6 +18,7 @@ use Rattle.command_meaning.specs.declared.Kind.{Kind}
 use Rattle.command_meaning.specs.declared.Kind.TheVariants.{Pairs, Tombstones, Counter, Reads}
 use Rattle.command_meaning.specs.Kinds.{read_reply, pairs_effect, tombstones_effect, counter_effect, kind_effect, KindIs}
 use Rattle.exec_queued.specs.Walks.{Ran, Advanced}
+use Rattle.std.specs.Prelude.{Option}
 
 module _ (seq : ℕ) (w : List ℕ) (b : Bytes) (p : List ℕ) (count : ℕ) (own : List ℕ) (d : Bytes) (a : Walked) where
   -- the same effect under another name
@@ -65,7 +65,7 @@ module _ (seq : ℕ) (w : List ℕ) (b : Bytes) (p : List ℕ) (count : ℕ) (ow
         renamed (effect_as (reader_of own (take a.used d) a.rows w b seq) e
         ∙ ap (λ (z : ℤ). counter_effect z (reader_of own (take a.used d) a.rows w b seq) (arguments_at 0 count p (take a.used d))) (sym same)) x
 
-    pub queued_read : {q : Read} {out out' : Bytes} {next : Put} → Own own (take a.used d) a.rows → k ≡ Reads q
+    pub queued_read : {q : Read} {out out' : Bytes} {next : Option ℕ} → Own own (take a.used d) a.rows → k ≡ Reads q
         → Adds (encode (read_reply q (reader_of own (take a.used d) a.rows w b seq) (arguments_at 0 count p (take a.used d)))) a.put out next out'
         → Advanced (run (reader_of own (take a.used d) a.rows w b seq) (command_of (arguments_at 0 count p (take a.used d)))) (count - 1) own d out a own d out' (record { rows = a.rows; used = a.used; put = next })
     unfolding kind_effect last_writes

@@ -9,8 +9,6 @@ use lib.ListN.{length, get_or, take, drop, replicate, length-append, length-drop
 use lib.Seq.{get_or-take, get_or-drop, take_all, take-take, length-take-le}
 use Rattle.base_key.specs.Bytes.{Bytes, ◌and◌, part, total}
 use Rattle.base_key.proofs.Bytes.{and_left, and_right}
-use Rattle.base_writing.specs.declared.Put.{Put}
-use Rattle.base_writing.specs.declared.Put.TheVariants.{Wrote, Full}
 use Rattle.base_writing.specs.Puts.{Puts, Adds, answered_behind, placed_behind}
 use Rattle.base_writing.proofs.Lent.{rest, with_rest, rest_is, with_rest_is}
 use Rattle.base_writing.proofs.Puts.{length_kept, was_full, Follows, follows_none, follows_more, then_follows}
@@ -26,6 +24,7 @@ use Rattle.command_writes.proofs.Growing.{none_writes, own_none, part_append}
 use Rattle.exec_queued.specs.declared.Walked.{Walked}
 use Rattle.exec_queued.specs.Walks.{Advanced}
 use Rattle.exec_run.specs.Progress.{Progress, begun, advance, advance_all, Queued, requests_in, commands_in, lent_from, QueueRan}
+use Rattle.std.specs.Prelude.{Option, None, Some}
 
 -- ARGUMENTS of a part of the table
 pub take_arguments : (k n m : ℕ) (p : List ℕ) (s : Bytes) → take n (arguments_at k (n + m) p s) ≡ arguments_at k n p s
@@ -66,36 +65,28 @@ grown_arguments p d t count j (suc m) ps h =
     λ z. part_append (get_or p (2 * j) 0) (get_or p (2 * j + 1) 0) d t (ps.inside j (omega arith)) z ∷ grown_arguments p d t count (suc j) m ps (omega arith) z
 
 -- THE PART of the reply buffer that the next command is lent
-pub lent_all : {put : Put} {n : ℕ} (len : ℕ) → put ≡ Wrote n → 0 ≡ lent_from put len
-unfolding lent_from
-lent_all len e = rw e refl
-
-pub lent_none : {put : Put} (len : ℕ) → put ≡ Full → len ≡ lent_from put len
-unfolding lent_from
-lent_none len e = rw e refl
-
-pub lent_within : (put : Put) (len : ℕ) {at : ℕ} → at ≡ lent_from put len → at ≤ len
+pub lent_within : (put : Option ℕ) (len : ℕ) {at : ℕ} → at ≡ lent_from put len → at ≤ len
 unfolding lent_from
 lent_within put len {at} is = go put is
   where
-    go : (u : Put) → at ≡ lent_from u len → at ≤ len
-    go (Wrote n) e = omega arith
-    go Full e = omega arith
+    go : (u : Option ℕ) → at ≡ lent_from u len → at ≤ len
+    go (Some n) e = omega arith
+    go None e = omega arith
 
 -- what was written there is written behind what was put: a reply that did not fit has left zeros, and they stay
-lent_adds : {done-text text start entry last : Bytes} {put after : Put} {at : ℕ} → Puts done-text start put entry → at ≡ lent_from put (length entry)
+lent_adds : {done-text text start entry last : Bytes} {put after : Option ℕ} {at : ℕ} → Puts done-text start put entry → at ≡ lent_from put (length entry)
     → Adds text put (rest at entry) after last → Adds text put entry after (with_rest at entry last)
 unfolding lent_from answered_behind placed_behind
 lent_adds {text = text} {start = start} {entry = entry} {last = last} {put = put} {after = after} {at = at} p is a = go put refl is
   where
-    go : (u : Put) → put ≡ u → at ≡ lent_from u (length entry) → Adds text put entry after (with_rest at entry last)
-    go (Wrote n) e is =
+    go : (u : Option ℕ) → put ≡ u → at ≡ lent_from u (length entry) → Adds text put entry after (with_rest at entry last)
+    go (Some n) e is =
         let whole : rest at entry ≡ entry = rest_is at entry ∙ ap (λ (k : ℕ). drop k entry) is in
         let back : with_rest at entry last ≡ last = with_rest_is at entry last ∙ ap (λ (k : ℕ). take k entry ++ last) is in
         rw back (subst (λ (l : Bytes). Adds text put l after last) whole a)
-    go Full e is =
+    go None e is =
         let none : rest at entry ≡ [] = rest_is at entry ∙ ap (λ (k : ℕ). drop k entry) is ∙ drop_of_length-le entry {i = length entry} (omega arith) in
-        let b : Adds text Full [] after last = subst (λ (u : Put). Adds text u [] after last) e (subst (λ (l : Bytes). Adds text put l after last) none a) in
+        let b : Adds text None [] after last = subst (λ (u : Option ℕ). Adds text u [] after last) e (subst (λ (l : Bytes). Adds text put l after last) none a) in
         let zeros : entry ≡ replicate (length entry) 0 = (was_full p e).buffer ∙ ap (λ (k : ℕ). replicate k 0) (sym (length_kept p)) in
         let back : with_rest at entry last ≡ entry =
         with_rest_is at entry last
@@ -106,7 +97,7 @@ lent_adds {text = text} {start = start} {entry = entry} {last = last} {put = put
         record { answer = rw e b.answer; buffer = rw e (back ∙ zeros) }
 
 -- THE WALK: the first i commands, of the first `first` arguments, have been run; d₀ is the data that was in use before them
-pub record Walking (s p : List ℕ) (d₀ : Bytes) (w : List ℕ) (b : Bytes) (seq : ℕ) (put₀ : Put) (own₀ : List ℕ) (data₀ out₀ : Bytes) (own : List ℕ) (d out : Bytes) (a : Walked) (first i : ℕ) : Type 0 where
+pub record Walking (s p : List ℕ) (d₀ : Bytes) (w : List ℕ) (b : Bytes) (seq : ℕ) (put₀ : Option ℕ) (own₀ : List ℕ) (data₀ out₀ : Bytes) (own : List ℕ) (d out : Bytes) (a : Walked) (first i : ℕ) : Type 0 where
   pub within : i ≤ get_or s 3 0
   pub first_is : first + total (part (68 + i) (get_or s 3 0 - i) s) ≡ total (part 68 (get_or s 3 0) s)
   pub positive : all_positive (part (68 + i) (get_or s 3 0 - i) s) ≡ true
@@ -124,7 +115,7 @@ pub record Walking (s p : List ℕ) (d₀ : Bytes) (w : List ℕ) (b : Bytes) (s
   pub same : length own ≡ length own₀
   pub same_data : length d ≡ length data₀
 
-pub walking_none : (s p : List ℕ) (w : List ℕ) (b : Bytes) (seq used : ℕ) (put₀ : Put) (own d out : Bytes) {n : ℕ} → n ≡ get_or s 3 0 → Queued s p (take used d) → used + 20 * get_or s 3 0 ≤ length d
+pub walking_none : (s p : List ℕ) (w : List ℕ) (b : Bytes) (seq used : ℕ) (put₀ : Option ℕ) (own d out : Bytes) {n : ℕ} → n ≡ get_or s 3 0 → Queued s p (take used d) → used + 20 * get_or s 3 0 ≤ length d
     → Walking s p (take used d) w b seq put₀ own d out own d out (record { rows = 0; used = used; put = put₀ }) 0 0
 unfolding commands_in requests_in
 walking_none s p w b seq used put₀ own d out n-is q h =
@@ -147,7 +138,7 @@ walking_none s p w b seq used put₀ own d out n-is q h =
       same_data = refl;
     }
 
-module _ {s p : List ℕ} {d₀ : Bytes} {w : List ℕ} {b : Bytes} {seq : ℕ} {put₀ : Put} {own₀ : List ℕ} {data₀ out₀ : Bytes} {own : List ℕ} {d out : Bytes} {a : Walked} {first i : ℕ}
+module _ {s p : List ℕ} {d₀ : Bytes} {w : List ℕ} {b : Bytes} {seq : ℕ} {put₀ : Option ℕ} {own₀ : List ℕ} {data₀ out₀ : Bytes} {own : List ℕ} {d out : Bytes} {a : Walked} {first i : ℕ}
     (g : Walking s p d₀ w b seq put₀ own₀ data₀ out₀ own d out a first i) (q : Queued s p d₀) where
   module _ {n count : ℕ} (n-is : n ≡ get_or s 3 0) (l : i < n) (c-is : count ≡ get_or s (68 + i) 0) where
     h : i < get_or s 3 0
@@ -227,9 +218,6 @@ module _ {s p : List ℕ} {d₀ : Bytes} {w : List ℕ} {b : Bytes} {seq : ℕ} 
     pub rows_room : 4 * total (part 68 (get_or s 3 0) s) ≤ length own₀ → 4 * (a.rows + (count - 1)) ≤ length own
     rows_room o = omega (arith, g.few_rows, last_argument, count_least, g.same)
 
-    pub text_room : a.used + 20 ≤ length d
-    text_room = omega (arith, g.used_room)
-
     pub walking_more : {own' : List ℕ} {d' last : Bytes} {r : Walked} {text start : Bytes} {at : ℕ}
         → Puts text start put₀ out₀ → at ≡ lent_from a.put (length out)
         → Advanced (run (reader_of own (take a.used d) a.rows w b seq) (command_of (arguments_at 0 count (part (2 * first) (2 * first + 2 * count - 2 * first) p) (take a.used d)))) (count - 1) own d (rest at out) a own' d' last r
@@ -265,9 +253,6 @@ module _ {s p : List ℕ} {d₀ : Bytes} {w : List ℕ} {b : Bytes} {seq : ℕ} 
           same_data = x.same_data ∙ g.same_data;
         }
 
-  pub word_in : {n : ℕ} → n ≡ get_or s 3 0 → i < n → 68 + i < length s
-  word_in e l = omega (arith, q.words, q.few)
-
   pub walked_all : {start : Bytes} {n : ℕ} → n ≡ get_or s 3 0 → n ≤ i → Puts (head 42 n) start put₀ out₀ → QueueRan (advance_all seq (versions_in w b) (commands_in s p d₀) begun) (get_or s 3 0) own₀ data₀ start own d out a
   unfolding advance_all split_by
   walked_all {start} {n} n-is h u =
@@ -283,7 +268,3 @@ module _ {s p : List ℕ} {d₀ : Bytes} {w : List ℕ} {b : Bytes} {seq : ℕ} 
         same = g.same;
         same_data = g.same_data;
       }
-
-pub walking_length : {s p : List ℕ} {d₀ : Bytes} {w : List ℕ} {b : Bytes} {seq : ℕ} {put₀ : Put} {own₀ : List ℕ} {data₀ out₀ : Bytes} {own : List ℕ} {d out : Bytes} {a : Walked} {first i : ℕ} {text start : Bytes}
-    → Walking s p d₀ w b seq put₀ own₀ data₀ out₀ own d out a first i → Puts text start put₀ out₀ → length out ≡ length start
-walking_length g u = length_kept (then_follows u g.follows)

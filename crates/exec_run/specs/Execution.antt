@@ -11,10 +11,9 @@ use Rattle.command_spec.specs.Finish.{Served, finish}
 use Rattle.exec_decision.specs.Decided.{Decided, decide_queue}
 use Rattle.exec_finish.specs.declared.Prepared.{Prepared}
 use Rattle.exec_finish.specs.Deciding.{Decides}
-use Rattle.exec_run.specs.declared.Early.{Early}
-use Rattle.exec_run.specs.declared.Early.TheVariants.{Known, Runs}
 use Rattle.exec_run.specs.declared.layout.Sizes.{Sizes}
 use Rattle.exec_run.specs.Progress.{Queued, commands_in}
+use Rattle.std.specs.Prelude.{Option, None, Some}
 
 -- EXEC as bytes
 unfoldable pub exec_served : ℕ → ℕ → List ℕ → Bytes → List ℕ → Bytes → Served
@@ -59,6 +58,6 @@ pub record ExecReady (s : List ℕ) (sb : Bytes) (w b : List ℕ) (out : Bytes) 
   pub cleared : out ≡ replicate (length out) 0
 
 -- WHAT IS KNOWN BEFORE THE QUEUE RUNS: the decision, with its reply in the buffer and without writes in any working memory; or the queue has to run
-pub record BeforeQueue (s : List ℕ) (sb : Bytes) (w b : List ℕ) (out : Bytes) (e : Early) (out' : Bytes) : Type 0 where
-  pub known : (p : Prepared) → e ≡ Known p → (own : List ℕ) (d : Bytes) → Decides (exec_decided (length out) s sb w b) w out own d p out'
-  pub runs : e ≡ Runs → (out' ≡ out) × ExecReady s sb w b out
+pub record BeforeQueue (s : List ℕ) (sb : Bytes) (w b : List ℕ) (out : Bytes) (e : Option Prepared) (out' : Bytes) : Type 0 where
+  pub known : (p : Prepared) → e ≡ Some p → (own : List ℕ) (d : Bytes) → Decides (exec_decided (length out) s sb w b) w out own d p out'
+  pub runs : e ≡ None → (out' ≡ out) × ExecReady s sb w b out

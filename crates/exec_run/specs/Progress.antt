@@ -1,8 +1,6 @@
 -- How far the commands of an EXEC have come, one command after another: what the code keeps while it walks the queue; and that queue.
 use Rattle.std.specs.Prelude.{ℕ, ◌≤◌, ◌≡◌, true, List, [], ◌∷◌, ◌++◌, map, length, get_or, take}
 use Rattle.base_key.specs.Bytes.{Bytes, part, total}
-use Rattle.base_writing.specs.declared.Put.{Put}
-use Rattle.base_writing.specs.declared.Put.TheVariants.{Wrote, Full}
 use Rattle.base_writing.specs.Puts.{Puts}
 use Rattle.resp_spec.specs.Reply.{head, encode}
 use Rattle.store_memtable.specs.Table.{Write, over, last_writes}
@@ -13,6 +11,7 @@ use Rattle.command_spec.specs.Sessions.{split_by, all_positive, all_queueable}
 use Rattle.command_spec.specs.Places.{arguments_at, PartsIn}
 use Rattle.command_writes.specs.Own.{own_writes, Own}
 use Rattle.exec_queued.specs.declared.Walked.{Walked}
+use Rattle.std.specs.Prelude.{Option, None, Some}
 
 -- the writes so far, one for each key; the bytes of the replies so far
 pub record Progress : Type 0 where
@@ -55,9 +54,9 @@ unfoldable pub commands_in : List ℕ → List ℕ → Bytes → List Command
 commands_in s p d = map command_of (requests_in s p d)
 
 -- where the part of a reply buffer of `len` bytes that the next command is lent starts: once a reply did not fit, the part is empty
-unfoldable pub lent_from : Put → ℕ → ℕ
-lent_from (Wrote n) len = 0
-lent_from Full len = len
+unfoldable pub lent_from : Option ℕ → ℕ → ℕ
+lent_from (Some n) len = 0
+lent_from None len = len
 
 -- what running all of them leaves, by how far they have come
 pub record QueueRan (e : Progress) (count : ℕ) (own : List ℕ) (d out : Bytes) (own' : List ℕ) (d' out' : Bytes) (r : Walked) : Type 0 where

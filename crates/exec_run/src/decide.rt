@@ -8,12 +8,13 @@ ghost use Rattle.exec_finish.specs.Deciding.{Decides};
 ghost use Rattle.exec_run.specs.Execution.{BeforeQueue, ExecReady, SizesOf, WorkingMemory, exec_decided};
 
 use crate::layout::Sizes;
-use crate::{Early, layout, queued};
+use crate::{layout, queued};
 use command_spec::Fixed;
 use exec_decision::{CONFLICT, NONE_REACHED};
 use exec_finish::Prepared;
 use resp_encode::reply;
 use store_memtable::LAST;
+use store_memtable::store::Store;
 
 // What is known of EXEC of a valid session before its queue runs: the mark comes first, then the watched keys. The reply buffer is cleared.
 pub fn before_queue(
@@ -22,7 +23,7 @@ pub fn before_queue(
     words: &[u64],
     bytes: &[u8],
     out: &mut [u8],
-) -> Early
+) -> Option<Prepared>
     requires one_session { OneSession session_words.now session_bytes.now }
     requires session_bytes_value { session_ok (last_word words.now) session_words.now session_bytes.now ≡ true }
     requires valid { Valid words.now bytes.now }
@@ -31,13 +32,13 @@ pub fn before_queue(
 {
     if session_flags::failed(session_words) {
         let put = command_errors::put_fixed(out, Fixed::ExecAbort);
-        return Early::Known(exec_finish::prepare(put, NONE_REACHED, 0, 0));
+        return Some(exec_finish::prepare(put, NONE_REACHED, 0, 0));
     }
     if session_watch::watched_moved(session_words, session_bytes, words, bytes) {
         let put = reply::put_nil_array(out);
-        return Early::Known(exec_finish::prepare(put, CONFLICT, 0, 0));
+        return Some(exec_finish::prepare(put, CONFLICT, 0, 0));
     }
-    Early::Runs
+    None
 }
 
 // Runs the queue in lent working memory, and decides by room and sequences.
@@ -65,13 +66,9 @@ pub fn decide_queue(
         own,
         data,
         sizes.bytes,
-        words,
-        bytes,
+        &Store { words, bytes },
         seq,
         out,
     );
-    let rows = at.rows;
-    let end = at.used;
-    let put = at.put;
-    exec_finish::judge(own, rows, end, words, out, put)
+    exec_finish::judge(own, at.rows, at.used, words, out, at.put)
 }

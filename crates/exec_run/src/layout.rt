@@ -1,10 +1,10 @@
 // The working memory of an EXEC: the places of the queued arguments, and a copy of the bytes that they lie in.
-ghost use Rattle.std.specs.Prelude.{◌≡◌, true, ◌+◌, ◌*◌, ◌≤◌, length, get_or};
+ghost use Rattle.std.specs.Prelude.{◌≡◌, true, ◌+◌, ◌*◌, ◌^◌, ◌<◌, ◌≤◌, length, get_or};
 ghost use Rattle.base_key.specs.Bytes.{part};
 ghost use Rattle.command_spec.specs.Sessions.{queue_in, all_positive, all_queueable};
 ghost use Rattle.command_spec.specs.Held.{Held};
 ghost use Rattle.command_spec.specs.Places.{QueueSizes};
-ghost use Rattle.exec_run.specs.Execution.{SizesOf, small, LaidOut};
+ghost use Rattle.exec_run.specs.Execution.{SizesOf, small, LaidOut, WorkingMemory};
 
 use session_memory::{
     ARGUMENTS, COUNTS, LENGTHS, MOST_ARGUMENT_BYTES, MOST_ARGUMENTS, MOST_QUEUED, QUEUED,
@@ -51,9 +51,9 @@ pub fn sizes_of(session_words: &[u64]) -> Sizes
     let arguments = session_memory::sum_within(session_words, COUNTS, commands, MOST_ARGUMENTS);
     let bytes = session_memory::sum_within(session_words, LENGTHS, arguments, MOST_ARGUMENT_BYTES);
     Sizes {
-        commands: commands,
-        arguments: arguments,
-        bytes: bytes,
+        commands,
+        arguments,
+        bytes,
     }
 }
 
@@ -61,13 +61,45 @@ pub fn sizes_of(session_words: &[u64]) -> Sizes
 pub fn is_small(sizes: Sizes) -> bool
     ensures { result ≡ small sizes }
 {
-    if SMALL_COMMANDS < sizes.commands {
-        return false;
+    sizes.commands <= SMALL_COMMANDS
+        && sizes.arguments <= SMALL_ARGUMENTS
+        && sizes.bytes <= SMALL_BYTES
+}
+
+// Calls `body` with working memory of these lengths. A function of its own, so that a small queue does not pay for the largest arrays.
+#[inline(never)]
+fn with_lengths<
+    const PLACES: usize,
+    const WRITES: usize,
+    const DATA: usize,
+    R,
+    F: FnMut(&mut [u64], &mut [u64], &mut [u8]) -> R,
+>(body: &mut F) -> R
+    requires callable { (p : _) (w : _) (d : _) → length p.now ≡ PLACES → length w.now ≡ WRITES → length d.now ≡ DATA → F.pre body.old p w d }
+    requires memory_fits { 8 * PLACES + 8 * WRITES + DATA < 2 ^ 63 }
+    ensures { (p : _) × (w : _) × (d : _) × (p' : _) × (w' : _) × (d' : _) × F.step body.old p w d result p' w' d' body.new }
+{
+    let mut places = [0u64; PLACES];
+    let mut own = [0u64; WRITES];
+    let mut data = [0u8; DATA];
+    body(&mut places, &mut own, &mut data)
+}
+
+// Calls `body` with working memory for a queue of these sizes. An `FnOnce` by value was tried: the caller then does not know what the call changed.
+pub fn with_memory<R, F: FnMut(&mut [u64], &mut [u64], &mut [u8]) -> R>(
+    sizes: Sizes,
+    body: &mut F,
+) -> R
+    requires few_commands { sizes.commands ≤ MOST_QUEUED }
+    requires few_arguments { sizes.arguments ≤ MOST_ARGUMENTS }
+    requires few_bytes { sizes.bytes ≤ MOST_ARGUMENT_BYTES }
+    requires callable { (p : _) (w : _) (d : _) → WorkingMemory sizes p.now w.now d.now → F.pre body.old p w d }
+    ensures { (p : _) × (w : _) × (d : _) × (p' : _) × (w' : _) × (d' : _) × F.step body.old p w d result p' w' d' body.new }
+{
+    if is_small(sizes) {
+        return with_lengths::<SMALL_PLACES, SMALL_WRITES, SMALL_DATA, R, F>(body);
     }
-    if SMALL_ARGUMENTS < sizes.arguments {
-        return false;
-    }
-    sizes.bytes <= SMALL_BYTES
+    with_lengths::<MOST_PLACES, MOST_WRITES, MOST_DATA, R, F>(body)
 }
 
 // Writes the places of the queued arguments, and their bytes.

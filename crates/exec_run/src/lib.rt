@@ -9,10 +9,3 @@ pub mod queued;
 pub mod transaction;
 
 use exec_finish::Prepared;
-
-// What is decided of an EXEC before its queue runs, or that it has to run.
-#[derive(Clone, Copy)]
-pub enum Early {
-    Known(Prepared),
-    Runs,
-}

@@ -4,33 +4,30 @@ ghost use Rattle.store_memtable.specs.Layout.{last_word};
 ghost use Rattle.store_memtable.specs.Rows.{Valid};
 ghost use Rattle.command_spec.specs.Lent.{OneSession};
 ghost use Rattle.command_spec.specs.Sessions.{session_ok};
-ghost use Rattle.exec_run.specs.Execution.{ExecReady, SizesOf, WorkingMemory, exec_decided, small};
+ghost use Rattle.exec_run.specs.Execution.{ExecReady, SizesOf, WorkingMemory, exec_decided};
 ghost use Rattle.exec_run.specs.Previewing.{Previews, preview_prepared, session_decided};
 
-use crate::layout::{
-    MOST_DATA, MOST_PLACES, MOST_WRITES, SMALL_DATA, SMALL_PLACES, SMALL_WRITES, Sizes,
-};
-use crate::{Early, decide, layout};
+use crate::layout::Sizes;
+use crate::{decide, layout};
 use command_spec::Fixed;
 use exec_decision::{NONE_REACHED, Preview};
 use exec_finish::Prepared;
 use store_memtable::{LAST, read};
 
 // A preview of what is prepared, on a store with this last sequence.
+#[tactic(auto, unfolding(crate::specs::Previewing::preview_prepared))]
 fn preview_of(prepared: Prepared, last: u64) -> Preview
     requires { last + prepared.rows < 2 ^ 64 }
     ensures { result ≡ preview_prepared last prepared }
 {
-    let number = prepared.number;
-    if number != 0 {
-        return exec_decision::refusal(number);
+    if prepared.number != 0 {
+        return exec_decision::refusal(prepared.number);
     }
-    let rows = prepared.rows;
     Preview {
         number: 0,
         verdict: prepared.verdict,
         reply: prepared.reply,
-        last: last + read::wide(rows),
+        last: last + read::wide(prepared.rows),
     }
 }
 
@@ -65,65 +62,6 @@ fn preview_in(
     preview_of(prepared, words[LAST])
 }
 
-// The same, with working memory of its own for a small queue.
-fn preview_small(
-    session_words: &[u64],
-    session_bytes: &[u8],
-    words: &[u64],
-    bytes: &[u8],
-    out: &mut [u8],
-    sizes: Sizes,
-) -> Preview
-    requires exec_ready { ExecReady session_words.now session_bytes.now words.now bytes.now out.old }
-    requires sizes_of { SizesOf session_words.now sizes }
-    requires sizes_value { small sizes ≡ true }
-    ensures { Previews (last_word words.now) (exec_decided (length out.old) session_words.now session_bytes.now words.now bytes.now) out.old result out.new }
-{
-    let mut places = [0u64; SMALL_PLACES];
-    let mut own = [0u64; SMALL_WRITES];
-    let mut data = [0u8; SMALL_DATA];
-    preview_in(
-        session_words,
-        session_bytes,
-        words,
-        bytes,
-        out,
-        sizes,
-        &mut places,
-        &mut own,
-        &mut data,
-    )
-}
-
-// The same for every queue.
-fn preview_large(
-    session_words: &[u64],
-    session_bytes: &[u8],
-    words: &[u64],
-    bytes: &[u8],
-    out: &mut [u8],
-    sizes: Sizes,
-) -> Preview
-    requires exec_ready { ExecReady session_words.now session_bytes.now words.now bytes.now out.old }
-    requires sizes_of { SizesOf session_words.now sizes }
-    ensures { Previews (last_word words.now) (exec_decided (length out.old) session_words.now session_bytes.now words.now bytes.now) out.old result out.new }
-{
-    let mut places = [0u64; MOST_PLACES];
-    let mut own = [0u64; MOST_WRITES];
-    let mut data = [0u8; MOST_DATA];
-    preview_in(
-        session_words,
-        session_bytes,
-        words,
-        bytes,
-        out,
-        sizes,
-        &mut places,
-        &mut own,
-        &mut data,
-    )
-}
-
 // The same, with working memory by the sizes of the queue.
 fn preview_queue(
     session_words: &[u64],
@@ -136,10 +74,22 @@ fn preview_queue(
     ensures { Previews (last_word words.now) (exec_decided (length out.old) session_words.now session_bytes.now words.now bytes.now) out.old result out.new }
 {
     let sizes = layout::sizes_of(session_words);
-    if layout::is_small(sizes) {
-        return preview_small(session_words, session_bytes, words, bytes, out, sizes);
-    }
-    preview_large(session_words, session_bytes, words, bytes, out, sizes)
+    layout::with_memory(
+        sizes,
+        &mut |places, own, data| {
+            preview_in(
+                session_words,
+                session_bytes,
+                words,
+                bytes,
+                out,
+                sizes,
+                places,
+                own,
+                data,
+            )
+        },
+    )
 }
 
 // A preview of EXEC inside MULTI.
@@ -157,7 +107,7 @@ fn preview_inside(
     ensures { Previews (last_word words.now) (exec_decided (length out.old) session_words.now session_bytes.now words.now bytes.now) out.old result out.new }
 {
     let early = decide::before_queue(session_words, session_bytes, words, bytes, out);
-    let Early::Known(prepared) = early else {
+    let Some(prepared) = early else {
         return preview_queue(session_words, session_bytes, words, bytes, out);
     };
     preview_of(prepared, words[LAST])

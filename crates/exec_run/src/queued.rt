@@ -1,7 +1,7 @@
 // One queued command run, and all of them.
 ghost use Rattle.std.specs.Prelude.{◌≡◌, true, ◌+◌, ◌-◌, ◌*◌, ◌≤◌, length, get_or, take};
 ghost use Rattle.base_key.specs.Bytes.{part, total};
-ghost use Rattle.store_memtable.specs.Rows.{Valid, versions_in};
+ghost use Rattle.store_memtable.specs.Reading.{versions_of};
 ghost use Rattle.command_spec.specs.Names.{request_queueable};
 ghost use Rattle.command_spec.specs.Command.{command_of, run};
 ghost use Rattle.command_spec.specs.Places.{arguments_at, PartsIn};
@@ -10,11 +10,13 @@ ghost use Rattle.exec_queued.specs.Walks.{Advanced};
 ghost use Rattle.exec_run.specs.Progress.{begun, advance_all, Queued, commands_in, lent_from, QueueRan};
 
 use crate::answers;
-use base_writing::Put;
+use command_lookup::reader::Reader;
+use command_meaning::arguments::Request;
 use command_meaning::{Kind, kinds};
 use exec_queued::{Walked, counters, pairs, tombstones};
 use resp_encode::reply;
 use session_memory::{COUNTS, QUEUED};
+use store_memtable::store::Store;
 
 // Runs a queued command.
 pub fn run_queued(
@@ -22,72 +24,63 @@ pub fn run_queued(
     count: usize,
     own: &mut [u64],
     data: &mut [u8],
-    words: &[u64],
-    bytes: &[u8],
+    store: &Store,
     seq: u64,
     out: &mut [u8],
     at: Walked,
 ) -> Walked
     requires own { Own own.old (take at.used «data».old) at.rows }
-    requires valid { Valid words.now bytes.now }
     requires parts_in { PartsIn places.now (take at.used «data».old) count }
     requires le_count { 1 ≤ count }
     requires data_value { request_queueable (arguments_at 0 count places.now (take at.used «data».old)) ≡ true }
     requires count_in_bounds { 4 * (at.rows + (count - 1)) ≤ length own.old }
     requires used_in_bounds { at.used + 20 ≤ length «data».old }
-    ensures { Advanced (run (reader_of own.old (take at.used «data».old) at.rows words.now bytes.now seq) (command_of (arguments_at 0 count places.now (take at.used «data».old)))) (count - 1) own.old «data».old out.old at own.new «data».new out.new result }
+    ensures { Advanced (run (reader_of own.old (take at.used «data».old) at.rows store.now.words.now store.now.bytes.now seq) (command_of (arguments_at 0 count places.now (take at.used «data».old)))) (count - 1) own.old «data».old out.old at own.new «data».new out.new result }
 {
     let used = at.used;
-    let rows = at.rows;
-    let put = at.put;
-    let kind = kinds::kind_at(&data[..used], places, count);
-    match kind {
+    let request = Request {
+        input: &data[..used],
+        places,
+        count,
+    };
+    match kinds::kind_at(&request) {
         Kind::Pairs => pairs::run_pairs(places, count, own, &data[..used], out, at),
         Kind::Tombstones => tombstones::run_tombstones(
             places,
             count,
             own,
             &data[..used],
-            words,
-            bytes,
+            store,
             seq,
             out,
             at,
         ),
         Kind::Counter(by) => counters::run_counter(
-            places, count, by, own, data, words, bytes, seq, out, at,
+            places, count, by, own, data, store, seq, out, at,
         ),
         Kind::Reads(read) => {
-            let next = answers::then_read(
-                read,
-                places,
-                count,
+            let reader = Reader {
                 own,
-                rows,
-                &data[..used],
-                words,
-                bytes,
+                rows: at.rows,
+                data: &data[..used],
+                store: *store,
                 seq,
-                out,
-                put,
-            );
-            Walked {
-                rows: rows,
-                used: used,
-                put: next,
-            }
+            };
+            let next = answers::then_read(read, &reader, places, count, out, at.put);
+            Walked { put: next, ..at }
         }
     }
 }
 
 // Where the part of the reply buffer that the next command is lent starts: at the end, once a reply did not fit.
-fn lent_from(put: Put, len: usize) -> usize
+#[tactic(auto, unfolding(crate::specs::Progress::lent_from))]
+fn lent_from(put: Option<usize>, len: usize) -> usize
     ensures { result ≡ lent_from put len }
 {
-    let Put::Wrote(_) = put else {
-        return len;
-    };
-    0
+    match put {
+        Some(_) => 0,
+        None => len,
+    }
 }
 
 // Runs the commands of a session's queue, one after another, behind the head of their replies. `used` bytes of the data are in use.
@@ -97,44 +90,38 @@ pub fn run_queue(
     own: &mut [u64],
     data: &mut [u8],
     used: usize,
-    words: &[u64],
-    bytes: &[u8],
+    store: &Store,
     seq: u64,
     out: &mut [u8],
 ) -> Walked
     requires queued { Queued session_words.now places.now (take used «data».old) }
-    requires valid { Valid words.now bytes.now }
     requires session_words_in_bounds { 4 * total (part 68 (get_or session_words.now 3 0) session_words.now) ≤ length own.old }
     requires session_words_in_bounds_2 { used + 20 * get_or session_words.now 3 0 ≤ length «data».old }
-    ensures { QueueRan (advance_all seq (versions_in words.now bytes.now) (commands_in session_words.now places.now (take used «data».old)) begun) (get_or session_words.now 3 0) own.old «data».old out.old own.new «data».new out.new result }
+    ensures { QueueRan (advance_all seq (versions_of store.now) (commands_in session_words.now places.now (take used «data».old)) begun) (get_or session_words.now 3 0) own.old «data».old out.old own.new «data».new out.new result }
 {
     let queued = session_memory::word(session_words, QUEUED);
     let mut at = Walked {
         rows: 0,
-        used: used,
+        used,
         put: reply::put_head(out, b'*', queued as u64),
     };
     let mut first = 0;
-    let mut i = 0;
-    while i < queued {
+    for i in 0..queued {
         let count = session_memory::word(session_words, COUNTS + i);
         let start = 2 * first;
         let end = start + 2 * count;
-        let put = at.put;
-        let lent = lent_from(put, out.len());
+        let lent = lent_from(at.put, out.len());
         at = run_queued(
             &places[start..end],
             count,
             own,
             data,
-            words,
-            bytes,
+            store,
             seq,
             &mut out[lent..],
             at,
         );
         first += count;
-        i += 1;
     }
     at
 }

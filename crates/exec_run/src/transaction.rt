@@ -5,12 +5,10 @@ ghost use Rattle.store_memtable.specs.Rows.{Valid};
 ghost use Rattle.command_spec.specs.Lent.{OneSession};
 ghost use Rattle.command_spec.specs.Sessions.{session_ok};
 ghost use Rattle.exec_finish.specs.Leaving.{Leaves};
-ghost use Rattle.exec_run.specs.Execution.{ExecReady, SizesOf, WorkingMemory, exec_served, small};
+ghost use Rattle.exec_run.specs.Execution.{ExecReady, SizesOf, WorkingMemory, exec_served};
 
-use crate::layout::{
-    MOST_DATA, MOST_PLACES, MOST_WRITES, SMALL_DATA, SMALL_PLACES, SMALL_WRITES, Sizes,
-};
-use crate::{Early, decide, layout};
+use crate::layout::Sizes;
+use crate::{decide, layout};
 use command_spec::Answer;
 
 // Runs the queue in lent working memory, and applies what is decided.
@@ -42,78 +40,14 @@ fn exec_in(
         own,
         data,
     );
-    let end = prepared.end;
     exec_finish::apply(
         session_words,
         own,
-        &data[..end],
+        &data[..prepared.end],
         words,
         bytes,
         prepared,
         used,
-    )
-}
-
-// The same, with working memory of its own for a small queue.
-fn exec_small(
-    session_words: &mut [u64],
-    session_bytes: &[u8],
-    words: &mut [u64],
-    bytes: &mut [u8],
-    out: &mut [u8],
-    used: usize,
-    sizes: Sizes,
-) -> Answer
-    requires exec_ready { ExecReady session_words.old session_bytes.now words.old bytes.old out.old }
-    requires sizes_of { SizesOf session_words.old sizes }
-    requires sizes_value { small sizes ≡ true }
-    ensures { Leaves (exec_served (length out.old) used session_words.old session_bytes.now words.old bytes.old) out.old words.old bytes.old session_words.old session_bytes.now result out.new words.new bytes.new session_words.new }
-{
-    let mut places = [0u64; SMALL_PLACES];
-    let mut own = [0u64; SMALL_WRITES];
-    let mut data = [0u8; SMALL_DATA];
-    exec_in(
-        session_words,
-        session_bytes,
-        words,
-        bytes,
-        out,
-        used,
-        sizes,
-        &mut places,
-        &mut own,
-        &mut data,
-    )
-}
-
-// The same for every queue.
-fn exec_large(
-    session_words: &mut [u64],
-    session_bytes: &[u8],
-    words: &mut [u64],
-    bytes: &mut [u8],
-    out: &mut [u8],
-    used: usize,
-    sizes: Sizes,
-) -> Answer
-    requires exec_ready { ExecReady session_words.old session_bytes.now words.old bytes.old out.old }
-    requires sizes_of { SizesOf session_words.old sizes }
-    ensures { Leaves (exec_served (length out.old) used session_words.old session_bytes.now words.old bytes.old) out.old words.old bytes.old session_words.old session_bytes.now result out.new words.new bytes.new session_words.new }
-{
-    let mut places = [0u64; MOST_PLACES];
-    let mut own = [0u64; MOST_WRITES];
-    let mut data = [0u8; MOST_DATA];
-    exec_in(
-        session_words,
-        session_bytes,
-        words,
-        bytes,
-        out,
-        used,
-        sizes,
-        &mut places,
-        &mut own,
-        &mut data,
     )
 }
 
@@ -130,10 +64,23 @@ fn exec_queue(
     ensures { Leaves (exec_served (length out.old) used session_words.old session_bytes.now words.old bytes.old) out.old words.old bytes.old session_words.old session_bytes.now result out.new words.new bytes.new session_words.new }
 {
     let sizes = layout::sizes_of(session_words);
-    if layout::is_small(sizes) {
-        return exec_small(session_words, session_bytes, words, bytes, out, used, sizes);
-    }
-    exec_large(session_words, session_bytes, words, bytes, out, used, sizes)
+    layout::with_memory(
+        sizes,
+        &mut |places, own, data| {
+            exec_in(
+                session_words,
+                session_bytes,
+                words,
+                bytes,
+                out,
+                used,
+                sizes,
+                places,
+                own,
+                data,
+            )
+        },
+    )
 }
 
 // EXEC of a valid session, into a cleared reply buffer.
@@ -152,19 +99,9 @@ pub fn exec(
     ensures { Leaves (exec_served (length out.old) used session_words.old session_bytes.now words.old bytes.old) out.old words.old bytes.old session_words.old session_bytes.now result out.new words.new bytes.new session_words.new }
 {
     let early = decide::before_queue(session_words, session_bytes, words, bytes, out);
-    let Early::Known(prepared) = early else {
+    let Some(prepared) = early else {
         return exec_queue(session_words, session_bytes, words, bytes, out, used);
     };
-    // nothing is written, so what stands for the own writes and their data is not read
-    let none = [0u64; 1];
-    let end = prepared.end;
-    exec_finish::apply(
-        session_words,
-        &none,
-        &session_bytes[..end],
-        words,
-        bytes,
-        prepared,
-        used,
-    )
+    // nothing is written: no own writes, and no data
+    exec_finish::apply(session_words, &[], &[], words, bytes, prepared, used)
 }

@@ -1,13 +1,13 @@
 -- The turns of a frame: each ends it or goes on behind where it began. Assumes nothing.
 use Prim.Native.Nat.{ℕ, suc, ◌+◌, ◌-◌, ◌*◌, ◌≤◌, ◌<◌}
 use native.Mathlib.Omega.{arith}
-use mathlib.Core.Path.{◌≡◌, refl, sym, ap, ◌∙◌}
+use mathlib.Core.Path.{◌≡◌, refl, sym, ◌∙◌}
 use mathlib.Core.Bool.{Bool, true, false, cond}
 use mathlib.Core.List.{List}
-use mathlib.Core.Option.{Option, none, some}
+use Rattle.std.specs.Prelude.{Option, None, Some}
 use lib.Dec.{ltb}
 use lib.ListN.{length}
-use borrow.Author.Tests.{ltb-true, le-leb, lt-leb}
+use borrow.Author.Tests.{ltb-true}
 use borrow.Rule.Slice.PartMut.{mid_of, mid_len}
 use Rattle.base_key.specs.Bytes.{Bytes, part}
 use Rattle.call_spec.specs.Calls.{Lent}
@@ -23,17 +23,6 @@ use Rattle.frames_console.specs.Lines.{filled_of, begun_as, Begins}
 use Rattle.frames_console.proofs.BeginLaws.{given_bounds}
 use Rattle.frames_console.proofs.TurnLaws.{InTurns, turns_none, turns_more}
 use Rattle.call_spec.specs.Frames as F
-use Rattle.frames.specs.Bounds.{Served}
-
--- ROOM ON THE PAGE, by the test
-module _ (size filled need : ℕ) where
-  pub room_kept : need ≤ size - filled → filled ≡ room_made size filled need
-  unfolding room_made
-  room_kept h = rw (le-leb need (size - filled) h)
-
-  pub room_written : size - filled < need → 0 ≡ room_made size filled need
-  unfolding room_made
-  room_written h = rw (lt-leb need (size - filled) h)
 
 -- in front of a turn: what is within its buffers
 pub record TurnBounds (session to start end : ℕ) (at : Progress) : Type 0 where
@@ -101,10 +90,6 @@ module _ {session to filled start end room : ℕ} {at r : Progress} {page page�
     turns = turns_more 131072 65536 x.turns t e (coe 0 1 (z. SomeServed session (frame_is z) at.from at.replied room page₁ l₁ r page₂ l₂) p);
   }
 
--- the bounds of the frame that was served
-pub served_bounds : {session to start end room : ℕ} {at : Progress} → TurnBounds session to start end at → room + 64 ≤ 131072 → Served to (record { from = at.from; replied = at.replied; filled = room; full = at.full; mark = at.mark })
-served_bounds x h = record { from = x.from; filled = h; mark = x.mark }
-
 -- a frame to serve
 pub record ServeBounds (i to n size : ℕ) : Type 0 where
   pub below : i < 16
@@ -116,7 +101,7 @@ module _ {line page page' held held' : Bytes} {counts : List ℕ} {filled : ℕ}
   unfolding begun_as
   serve_bounds {i} {to} {n} e = go (F.given line) refl (sym e ∙ b.answer)
     where
-      by_test : (g : F.Given) (d : Bool) → ltb g.session 16 ≡ d → F.given line ≡ some g → Serve i to n ≡ cond d (Serve g.session (count_at counts g.session + length g.input) (filled_of r)) (Answered (filled_of r)) → ServeBounds i to n (length page)
+      by_test : (g : F.Given) (d : Bool) → ltb g.session 16 ≡ d → F.given line ≡ Some g → Serve i to n ≡ cond d (Serve g.session (count_at counts g.session + length g.input) (filled_of r)) (Answered (filled_of r)) → ServeBounds i to n (length page)
       by_test g false u t y = let z : ◌≡◌ {A = ℕ} 0 1 = cc in absurd (omega arith)
       by_test g true u t y =
           let session : i ≡ g.session = cc in
@@ -125,8 +110,5 @@ module _ {line page page' held held' : Bytes} {counts : List ℕ} {filled : ℕ}
           record { below = omega (arith, session, ltb-true g.session 16 u); small = omega (arith, end, (given_bounds line g t).most); filled = omega (arith, size, b.added.within) }
 
       go : (o : Option F.Given) → F.given line ≡ o → Serve i to n ≡ begun_as o counts (filled_of r) → ServeBounds i to n (length page)
-      go none t y = let z : ◌≡◌ {A = ℕ} 0 1 = cc in absurd (omega arith)
-      go (some g) t y = by_test g (ltb g.session 16) refl t y
-
-  pub answered_bound : {n : ℕ} → r ≡ Answered n → n ≤ length page
-  answered_bound {n} e = let size : n ≡ filled_of r = sym (ap filled_of e) in omega (arith, size, b.added.within)
+      go None t y = let z : ◌≡◌ {A = ℕ} 0 1 = cc in absurd (omega arith)
+      go (Some g) t y = by_test g (ltb g.session 16) refl t y

@@ -49,6 +49,7 @@ struct Cursor {
 }
 
 // Writes the page out where fewer than `need` of its bytes are free; a write that fails is passed over.
+#[tactic(auto, unfolding(frames_console::specs::Answers::room_made))]
 fn make_room(stdout: Stdout, page: &[u8; PAGE], filled: usize, need: usize) -> usize
     requires filled_bound { filled ≤ 131072 }
     requires need_bound { need ≤ 131072 }
@@ -58,8 +59,7 @@ fn make_room(stdout: Stdout, page: &[u8; PAGE], filled: usize, need: usize) -> u
     if need <= PAGE - filled {
         return filled;
     }
-    let whole = &page[..];
-    let _ = stdout.write_all(&whole[..filled]);
+    let _ = stdout.write_all(&page[..filled]);
     0
 }
 
@@ -155,24 +155,15 @@ fn line_end(part: &[u8], from: usize, got: usize) -> usize
     ensures upper_bound { result ≤ got }
     ensures value { result ≡ from + line_length (take (got - from) (drop from part.now)) }
 {
-    let mut i = from;
-    while i < got {
-        if part[i] == 10 {
-            return i;
-        }
-        i += 1;
-    }
-    got
+    let length = part[from..got].iter().position(|byte| *byte == b'\n');
+    from + length.unwrap_or(got - from)
 }
 
 // How many of the bytes of a line are kept.
 fn kept_of(size: usize) -> usize
     ensures { result ≡ min size 8196 }
 {
-    if size < LINE {
-        return size;
-    }
-    LINE
+    size.min(LINE)
 }
 
 // Moves what is kept of the line at hand to the front of the part.
@@ -260,11 +251,8 @@ fn find_end(part: &[u8; PART], at: Cursor) -> Cursor
     ensures result_value { input_left result ≡ input_left at }
 {
     Cursor {
-        from: at.from,
         end: line_end(part, at.end, at.got),
-        got: at.got,
-        filled: at.filled,
-        reads: at.reads,
+        ..at
     }
 }
 
@@ -282,10 +270,7 @@ fn next_line(
     ensures output { Output (take at.filled page.now) result.filled page.now }
 {
     let mut next = find_end(part, at);
-    while 0 < next.reads {
-        if next.end < next.got {
-            return next;
-        }
+    while 0 < next.reads && next.got <= next.end {
         let more = read_on(stdin, stdout, part, page, next);
         next = find_end(part, more);
     }
@@ -305,9 +290,8 @@ fn behind(stdout: Stdout, page: &[u8; PAGE], at: Cursor, filled: usize) -> Curso
     Cursor {
         from: start,
         end: start,
-        got: at.got,
         filled: make_room(stdout, page, filled, 64),
-        reads: at.reads,
+        ..at
     }
 }
 
@@ -340,12 +324,9 @@ fn answer_all(
     };
     let mut at = next_line(stdin, stdout, part, page, first);
     while at.end < at.got {
-        let from = at.from;
-        let end = at.end;
-        let read = &part[..];
         let filled = answer_line(
             stdout,
-            &read[from..end],
+            &part[at.from..at.end],
             at.filled,
             page,
             counts,

@@ -4,18 +4,15 @@ use native.Mathlib.Omega.{arith}
 use mathlib.Core.Path.{◌≡◌, refl, sym, ap, ap₂, ◌∙◌}
 use mathlib.Core.Bool.{Bool, true, false, cond, ◌&&◌}
 use mathlib.Core.List.{List, [], ◌∷◌, ◌++◌, append_assoc}
-use mathlib.Core.Option.{Option, none, some}
+use Rattle.std.specs.Prelude.{Option, None, Some}
+use Rattle.std.proofs.lemmas.Option.{some_pair_parts}
 use lib.Dec.{leb, ltb, eqb}
 use lib.ListN.{length, take, set, length-append}
 use borrow.Author.Tests.{leb-true, lt-ltb, le-ltb}
 use Rattle.base_key.specs.Bytes.{Bytes, part}
 use Rattle.call_spec.specs.Frames as F
-use Rattle.frames_lines.specs.declared.line.Given.{Given}
-use Rattle.frames_lines.specs.declared.line.Given.TheVariants.{Frame, Malformed}
 use Rattle.frames_lines.specs.declared.pieces.Mark.{Mark}
 use Rattle.frames_lines.specs.declared.pieces.Mark.TheVariants.{Number, Dropped}
-use Rattle.frames_lines.specs.declared.rest.Kept.{Kept}
-use Rattle.frames_lines.specs.declared.rest.Kept.TheVariants.{Bytes as Count, TooLong}
 use Rattle.frames_console.specs.declared.serve.Progress.{Progress}
 use Rattle.frames_console.specs.declared.frame.Begun.TheVariants.{Answered, Serve}
 use Rattle.frames_lines.specs.Pieces.{MarkFits, head_text, end_text, malformed_text}
@@ -34,21 +31,21 @@ pub record GivenBounds (g : F.Given) : Type 0 where
   pub some_bytes : 1 ≤ length g.input
   pub most : length g.input ≤ 4096
 
-input_some : (i : ℕ) (o : Option Bytes) (g : F.Given) → F.given_of true i o ≡ some g → 1 ≤ length g.input
+input_some : (i : ℕ) (o : Option Bytes) (g : F.Given) → F.given_of true i o ≡ Some g → 1 ≤ length g.input
 unfolding F.given_of
-input_some i none g e = let z : ◌≡◌ {A = ℕ} 0 1 = cc in absurd (omega arith)
-input_some i (some s) g e = go (leb 1 (length s)) (leb (length s) 4096) refl e
+input_some i None g e = let z : ◌≡◌ {A = ℕ} 0 1 = cc in absurd (omega arith)
+input_some i (Some s) g e = go (leb 1 (length s)) (leb (length s) 4096) refl e
   where
-    go : (b c : Bool) → leb 1 (length s) ≡ b → cond (b && c) (some (record { session = i; input = s })) none ≡ some g → 1 ≤ length g.input
+    go : (b c : Bool) → leb 1 (length s) ≡ b → cond (b && c) (Some (record { session = i; input = s })) None ≡ Some g → 1 ≤ length g.input
     go true true t e = let f : record { session = i; input = s } ≡ g = cc in omega (arith, leb-true 1 (length s) t, ap (λ (x : F.Given). length x.input) f)
     go true false t e = let z : ◌≡◌ {A = ℕ} 0 1 = cc in absurd (omega arith)
     go false c t e = let z : ◌≡◌ {A = ℕ} 0 1 = cc in absurd (omega arith)
 
-no_given : (i : ℕ) (o : Option Bytes) (g : F.Given) → F.given_of false i o ≡ some g → ⊥
+no_given : (i : ℕ) (o : Option Bytes) (g : F.Given) → F.given_of false i o ≡ Some g → ⊥
 unfolding F.given_of
 no_given i o g e = let z : ◌≡◌ {A = ℕ} 0 1 = cc in omega arith
 
-head_bounds : (a b : ℕ) (q : Bool) (o : Option Bytes) (g : F.Given) (p p' r r' : Bool) → leb a 57 ≡ p' → leb b 57 ≡ r' → F.given_of (((p && p') && (r && r')) && q) ((a - 48) * 10 + (b - 48)) o ≡ some g → GivenBounds g
+head_bounds : (a b : ℕ) (q : Bool) (o : Option Bytes) (g : F.Given) (p p' r r' : Bool) → leb a 57 ≡ p' → leb b 57 ≡ r' → F.given_of (((p && p') && (r && r')) && q) ((a - 48) * 10 + (b - 48)) o ≡ Some g → GivenBounds g
 head_bounds a b q o g false p' r r' t u e = absurd (no_given ((a - 48) * 10 + (b - 48)) o g e)
 head_bounds a b q o g true false r r' t u e = absurd (no_given ((a - 48) * 10 + (b - 48)) o g e)
 head_bounds a b q o g true true false r' t u e = absurd (no_given ((a - 48) * 10 + (b - 48)) o g e)
@@ -60,7 +57,7 @@ head_bounds a b true o g true true true true t u e = record {
   most = input_size ((a - 48) * 10 + (b - 48)) o g e;
 }
 
-pub given_bounds : (line : Bytes) (g : F.Given) → F.given line ≡ some g → GivenBounds g
+pub given_bounds : (line : Bytes) (g : F.Given) → F.given line ≡ Some g → GivenBounds g
 unfolding F.given
 given_bounds [] g e = let z : ◌≡◌ {A = ℕ} 0 1 = cc in absurd (omega arith)
 given_bounds (a ∷ []) g e = let z : ◌≡◌ {A = ℕ} 0 1 = cc in absurd (omega arith)
@@ -70,67 +67,63 @@ given_bounds (a ∷ b ∷ c ∷ s) g e = head_bounds a b (eqb c 32) (F.unhex s) 
 -- the frame that was read
 pub record FrameIs (line : Bytes) (i k : ℕ) : Type 0 where
   pub given : F.Given
-  pub is : F.given line ≡ some given
+  pub is : F.given line ≡ Some given
   pub session : given.session ≡ i
   pub count : length given.input ≡ k
   pub bounds : GivenBounds given
 
-module _ {line : Bytes} {counts : List ℕ} {held held' : Bytes} {r : Given} (f : FrameRead line counts held r held') where
-  frame_is : {i k : ℕ} → r ≡ Frame i k → FrameIs line i k
+module _ {line : Bytes} {counts : List ℕ} {held held' : Bytes} {r : Option (ℕ × ℕ)} (f : FrameRead line counts held r held') where
+  frame_is : {i k : ℕ} → r ≡ Some (i, k) → FrameIs line i k
   frame_is {i} {k} e = go (F.given line) refl (sym e ∙ f.answer)
     where
-      go : (o : Option F.Given) → F.given line ≡ o → Frame i k ≡ given_as o → FrameIs line i k
-      go none t u = let z : ◌≡◌ {A = ℕ} 0 1 = cc in absurd (omega arith)
-      go (some g) t u =
-          let a : i ≡ g.session = cc in
-          let b : k ≡ length g.input = cc in
-          record { given = g; is = t; session = sym a; count = sym b; bounds = given_bounds line g t }
+      go : (o : Option F.Given) → F.given line ≡ o → Some (i, k) ≡ given_as o → FrameIs line i k
+      go None t u = let z : ◌≡◌ {A = ℕ} 0 1 = cc in absurd (omega arith)
+      go (Some g) t u =
+          let parts = some_pair_parts i g.session k (length g.input) u in
+          record { given = g; is = t; session = sym parts.0; count = sym parts.1; bounds = given_bounds line g t }
 
-  none_is : r ≡ Malformed → F.given line ≡ none
+  none_is : r ≡ None → F.given line ≡ None
   none_is e = go (F.given line) refl (sym e ∙ f.answer)
     where
-      go : (o : Option F.Given) → F.given line ≡ o → Malformed ≡ given_as o → F.given line ≡ none
-      go none t u = t
-      go (some g) t u = let z : ◌≡◌ {A = ℕ} 0 1 = cc in absurd (omega arith)
+      go : (o : Option F.Given) → F.given line ≡ o → None ≡ given_as o → F.given line ≡ None
+      go None t u = t
+      go (Some g) t u = let z : ◌≡◌ {A = ℕ} 0 1 = cc in absurd (omega arith)
 
-  pub frame_session : {i k : ℕ} → r ≡ Frame i k → i < 100
+  pub frame_session : {i k : ℕ} → r ≡ Some (i, k) → i < 100
   frame_session e = let x = frame_is e in omega (arith, x.session, x.bounds.session)
 
-  pub frame_count : {i k : ℕ} → r ≡ Frame i k → k ≤ 4096
-  frame_count e = let x = frame_is e in omega (arith, x.count, x.bounds.most)
-
-  own_bytes : (g : F.Given) → F.given line ≡ some g → g.session < 16 → part (g.session * 8192) (count_at counts g.session + length g.input) held' ≡ held_at counts held g.session ++ g.input
+  own_bytes : (g : F.Given) → F.given line ≡ Some g → g.session < 16 → part (g.session * 8192) (count_at counts g.session + length g.input) held' ≡ held_at counts held g.session ++ g.input
   own_bytes g e h =
       let slot : slot_of g.session ≡ g.session = omega arith in
       rw slot at (f.bytes g e)
 
   module _ {filled n : ℕ} {page page' : Bytes} where
     -- a line of another form
-    pub begin_malformed : r ≡ Malformed → Added malformed_text filled page n page' → Begins line filled page counts held (Answered n) page' held'
+    pub begin_malformed : r ≡ None → Added malformed_text filled page n page' → Begins line filled page counts held (Answered n) page' held'
     unfolding begin_text begun_as
     begin_malformed e a =
         let o = none_is e in
         record { answer = rw o refl; added = rw o a; rests = f.rests; bytes = λ g t h. own_bytes g t h }
 
     -- a frame of a session below 16
-    pub begin_serve : {i k m : ℕ} → r ≡ Frame i k → i < 16 → m ≡ count_at counts i → Added (head_text i) filled page n page' → Begins line filled page counts held (Serve i (m + k) n) page' held'
+    pub begin_serve : {i k m : ℕ} → r ≡ Some (i, k) → i < 16 → m ≡ count_at counts i → Added (head_text i) filled page n page' → Begins line filled page counts held (Serve i (m + k) n) page' held'
     unfolding begin_text begun_as
     begin_serve {i} {k} {m} e below count a =
         let x = frame_is e in
         let test : ltb x.given.session 16 ≡ true = lt-ltb x.given.session 16 (omega (arith, x.session)) in
-        let text : begin_text (some x.given) ≡ head_text i = rw test (ap head_text x.session) in
+        let text : begin_text (Some x.given) ≡ head_text i = rw test (ap head_text x.session) in
         let to : m + k ≡ count_at counts x.given.session + length x.given.input = ap₂ ◌+◌ (count ∙ ap (count_at counts) (sym x.session)) (sym x.count) in
-        let said : Serve i (m + k) n ≡ begun_as (some x.given) counts n = rw test (λ z. Serve (sym x.session z) (to z) n) in
+        let said : Serve i (m + k) n ≡ begun_as (Some x.given) counts n = rw test (λ z. Serve (sym x.session z) (to z) n) in
         record { answer = rw x.is said; added = rw (x.is, text) a; rests = f.rests; bytes = λ g t h. own_bytes g t h }
 
     -- a frame of a session above 15
-    pub begin_refused : {i k : ℕ} → r ≡ Frame i k → 16 ≤ i → Added (refused_text i) filled page n page' → Begins line filled page counts held (Answered n) page' held'
+    pub begin_refused : {i k : ℕ} → r ≡ Some (i, k) → 16 ≤ i → Added (refused_text i) filled page n page' → Begins line filled page counts held (Answered n) page' held'
     unfolding begin_text begun_as
     begin_refused {i} {k} e above a =
         let x = frame_is e in
         let test : ltb x.given.session 16 ≡ false = le-ltb x.given.session 16 (omega (arith, x.session)) in
-        let text : begin_text (some x.given) ≡ refused_text i = rw test (ap refused_text x.session) in
-        let said : Answered n ≡ begun_as (some x.given) counts n = rw test refl in
+        let text : begin_text (Some x.given) ≡ refused_text i = rw test (ap refused_text x.session) in
+        let said : Answered n ≡ begun_as (Some x.given) counts n = rw test refl in
         record { answer = rw x.is said; added = rw (x.is, text) a; rests = f.rests; bytes = λ g t h. own_bytes g t h }
 
 -- one text behind another
@@ -152,38 +145,26 @@ pub head_room : (i : ℕ) {page page₁ : Bytes} {filled n : ℕ} → Added (hea
 unfolding head_text
 head_room i x h = record { room = omega (arith, x.count, x.size, h.room) }
 
--- less is free where more is
-pub less_free : {filled : ℕ} {page : Bytes} → Free 64 filled page → Free 32 filled page
-less_free f = record { room = omega (arith, f.room) }
-
 -- THE END
-pub mark_fits : {m : Mark} (mark : Mark) (k : Kept) → m ≡ mark_kept mark k → MarkFits mark → MarkFits m
+pub mark_fits : {m : Mark} (mark : Mark) (k : Option ℕ) → m ≡ mark_kept mark k → MarkFits mark → MarkFits m
 unfolding mark_kept MarkFits
-mark_fits mark (Count n) e h = rw e h
-mark_fits mark TooLong e h = rw e tt
+mark_fits mark (Some n) e h = rw e h
+mark_fits mark None e h = rw e tt
 
 pub one_fits : MarkFits (Number 1)
 unfolding MarkFits
 one_fits = omega arith
 
-pub kept_mark : (mark : Mark) {k : Kept} {n : ℕ} → k ≡ Count n → mark ≡ mark_kept mark k
-unfolding mark_kept
-kept_mark mark e = rw e refl
-
-pub dropped_mark : (mark : Mark) {k : Kept} → k ≡ TooLong → Dropped ≡ mark_kept mark k
-unfolding mark_kept
-dropped_mark mark e = rw e refl
-
 mark_is : (mark : Mark) (rest : Bytes) (n : ℕ) → length rest ≡ n → mark_kept mark (kept_of n) ≡ mark_after mark rest
 unfolding kept_of mark_kept mark_after
 mark_is mark rest n e = go (leb n 4096) ∙ ap (λ (k : ℕ). cond (leb k 4096) mark Dropped) (sym e)
   where
-    go : (b : Bool) → mark_kept mark (cond b (Count n) TooLong) ≡ cond b mark Dropped
+    go : (b : Bool) → mark_kept mark (cond b (Some n) None) ≡ cond b mark Dropped
     go true = refl
     go false = refl
 
-pub line_ended : {i to r : ℕ} {at : Progress} {page page' held held' : Bytes} {counts counts' : List ℕ} {k : Kept} {m : Mark} → Memory counts held → RestAt i at.from to → RestKept i at.from to counts held k counts' held' → m ≡ mark_kept at.mark k → Added (end_text at.replied m) at.filled page r page' → Ends i to at page counts held r page' counts' held'
+pub line_ended : {i to r : ℕ} {at : Progress} {page page' held held' : Bytes} {counts counts' : List ℕ} {k : Option ℕ} {m : Mark} → Memory counts held → RestAt i at.from to → RestKept i at.from to counts held k counts' held' → m ≡ mark_kept at.mark k → Added (end_text at.replied m) at.filled page r page' → Ends i to at page counts held r page' counts' held'
 line_ended {i} {to} {at = at} {held = held} {counts = counts} mem p x e a =
     let size : length (rest_in i at.from to held) ≡ to - at.from = part_length (i * 8192 + at.from) (to - at.from) held (omega (arith, mem.bytes, p.session, p.order, p.size)) in
     let same = e ∙ ap (mark_kept at.mark) x.answer ∙ mark_is at.mark (rest_in i at.from to held) (to - at.from) size in
-    record { added = rw same at a; rests = x.rests; words = x.words ∙ ap (λ (q : Kept). set counts i (held_of q)) x.answer }
+    record { added = rw same at a; rests = x.rests; words = x.words ∙ ap (λ (q : Option ℕ). set counts i (held_of q)) x.answer }

@@ -4,7 +4,7 @@ use native.Mathlib.Omega.{arith}
 use mathlib.Core.Path.{◌≡◌, refl, sym, ap, ◌∙◌}
 use mathlib.Core.Bool.{Bool, true, false, cond}
 use mathlib.Core.List.{List, [], ◌∷◌, ◌++◌}
-use mathlib.Core.Option.{Option, none, some}
+use Rattle.std.specs.Prelude.{Option, None, Some}
 use lib.Dec.{ltb}
 use lib.ListN.{length, take, drop, set}
 use lib.Seq.{drop-drop, take_all}
@@ -59,7 +59,7 @@ unfolding console_in
 console_is l counts held e = ap (λ (r : List Bytes). record { state = state_in l; rests = r }) e
 
 -- a session above 15
-refused_line : (g : F.Given) (c : F.Console) (t : Bytes) → 16 ≤ g.session → 1 ≤ length g.input → length c.rests ≡ 16 → Answered (some g) c t c (t ++ refused_text g.session)
+refused_line : (g : F.Given) (c : F.Console) (t : Bytes) → 16 ≤ g.session → 1 ≤ length g.input → length c.rests ≡ 16 → Answered (Some g) c t c (t ++ refused_text g.session)
 unfolding refused_text
 refused_line g c t above some_bytes many = frame_refused g c above some_bytes many t
 
@@ -73,35 +73,35 @@ module _ (l : Lent) (counts : List ℕ) (held : Bytes) {line page page' held' : 
       let y = by_line filled page e x (output_more (output_page filled page) a) in
       record { output = y.output; console = sym same_console ∙ y.console }
 
-  by_session : (g : F.Given) (d : Bool) → ltb g.session 16 ≡ d → F.given line ≡ some g
+  by_session : (g : F.Given) (d : Bool) → ltb g.session 16 ≡ d → F.given line ≡ Some g
       → Put n ≡ cond d (Serve g.session (count_at counts g.session + length g.input) n) (Put n)
       → Added (cond d (head_text g.session) (refused_text g.session)) filled page n page' → LineAnswered line (console_in l counts held) filled page (console_in l counts held') n page'
   unfolding console_in
   by_session g true u e r a = let z : ◌≡◌ {A = ℕ} 0 1 = cc in absurd (omega arith)
   by_session g false u e r a =
-      whole_line (some g) e a (refused_line g (console_in l counts held) (take filled page) (ltb-false g.session 16 u) (given_bounds line g e).some_bytes (rests_many counts held))
+      whole_line (Some g) e a (refused_line g (console_in l counts held) (take filled page) (ltb-false g.session 16 u) (given_bounds line g e).some_bytes (rests_many counts held))
 
   at_once : LineAnswered line (console_in l counts held) filled page (console_in l counts held') n page'
   unfolding begin_text begun_as
   at_once = go (F.given line) refl b.answer b.added
     where
       go : (o : Option F.Given) → F.given line ≡ o → Put n ≡ begun_as o counts n → Added (begin_text o) filled page n page' → LineAnswered line (console_in l counts held) filled page (console_in l counts held') n page'
-      go none e r a = whole_line none e a (malformed_line (console_in l counts held) (take filled page))
-      go (some g) e r a = by_session g (ltb g.session 16) refl e r a
+      go None e r a = whole_line None e a (malformed_line (console_in l counts held) (take filled page))
+      go (Some g) e r a = by_session g (ltb g.session 16) refl e r a
 
 -- a frame that is served
 pub record ServeIs (line : Bytes) (counts : List ℕ) (i to : ℕ) : Type 0 where
   pub input : Bytes
-  pub given : F.given line ≡ some (record { session = i; input = input })
+  pub given : F.given line ≡ Some (record { session = i; input = input })
   pub below : i < 16
   pub end : to ≡ count_at counts i + length input
-  pub text : begin_text (some (record { session = i; input = input })) ≡ head_text i
+  pub text : begin_text (Some (record { session = i; input = input })) ≡ head_text i
 
 serve_is : {line page page' held held' : Bytes} {counts : List ℕ} {filled i to n : ℕ} → Begins line filled page counts held (Serve i to n) page' held' → ServeIs line counts i to
 unfolding begin_text begun_as
 serve_is {line} {counts = counts} {i = i} {to} {n} b = go (F.given line) refl b.answer
   where
-    by_test : (g : F.Given) (d : Bool) → ltb g.session 16 ≡ d → F.given line ≡ some g → Serve i to n ≡ cond d (Serve g.session (count_at counts g.session + length g.input) n) (Put n) → ServeIs line counts i to
+    by_test : (g : F.Given) (d : Bool) → ltb g.session 16 ≡ d → F.given line ≡ Some g → Serve i to n ≡ cond d (Serve g.session (count_at counts g.session + length g.input) n) (Put n) → ServeIs line counts i to
     by_test g false u e r = let z : ◌≡◌ {A = ℕ} 0 1 = cc in absurd (omega arith)
     by_test g true u e r =
         let session : i ≡ g.session = cc in
@@ -109,15 +109,15 @@ serve_is {line} {counts = counts} {i = i} {to} {n} b = go (F.given line) refl b.
         let test : ltb i 16 ≡ true = ap (λ (k : ℕ). ltb k 16) session ∙ u in
         record {
           input = g.input;
-          given = e ∙ (λ z. some (record { session = sym session z; input = g.input }));
+          given = e ∙ (λ z. Some (record { session = sym session z; input = g.input }));
           below = ltb-true i 16 test;
           end = end ∙ ap (λ (k : ℕ). count_at counts k + length g.input) (sym session);
           text = rw test refl;
         }
 
     go : (o : Option F.Given) → F.given line ≡ o → Serve i to n ≡ begun_as o counts n → ServeIs line counts i to
-    go none e r = let z : ◌≡◌ {A = ℕ} 0 1 = cc in absurd (omega arith)
-    go (some g) e r = by_test g (ltb g.session 16) refl e r
+    go None e r = let z : ◌≡◌ {A = ℕ} 0 1 = cc in absurd (omega arith)
+    go (Some g) e r = by_test g (ltb g.session 16) refl e r
 
 module _ {line page page₁ page₂ page' held held₁ held' : Bytes} {counts counts' : List ℕ} {filled i to n filled' : ℕ} {l l' : Lent} {at : Progress} (b : Begins line filled page counts held (Serve i to n) page₁ held₁)
     (s : TurnsServed i (part (i * 8192) to held₁) n page₁ l at page₂ l') (f : Ends i to at page₂ counts held₁ filled' page' counts' held') where
@@ -129,7 +129,7 @@ module _ {line page page₁ page₂ page' held held₁ held' : Bytes} {counts co
       let head : Added (head_text i) filled page n page₁ = rw (ap begin_text (serve_is b).given ∙ (serve_is b).text) at b.added in
       served_from s.served head.front (sym (rest_is i at.from to held₁))
 
-  by_frame : Answered (some (record { session = i; input = (serve_is b).input })) (console_in l counts held) (take filled page) (record { state = state_in l'; rests = set (rests_in counts held) i (rest_of (rest_in i at.from to held₁)) }) (s.out ++ end_text at.replied (mark_after at.mark (rest_in i at.from to held₁)))
+  by_frame : Answered (Some (record { session = i; input = (serve_is b).input })) (console_in l counts held) (take filled page) (record { state = state_in l'; rests = set (rests_in counts held) i (rest_of (rest_in i at.from to held₁)) }) (s.out ++ end_text at.replied (mark_after at.mark (rest_in i at.from to held₁)))
   unfolding console_in
   by_frame =
       frame_answered (record { session = i; input = (serve_is b).input }) (console_in l counts held) (take filled page) refl

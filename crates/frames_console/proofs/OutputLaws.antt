@@ -28,10 +28,6 @@ output_on {page' = page'} {filled' = filled'} o p = record {
   is = o.is ∙ ap (λ (u : Bytes). o.written ++ u) p.is ∙ sym (append_assoc o.written p.written (take filled' page'));
 }
 
--- the bytes in use, by an equal count
-pub output_from : (page : Bytes) {page' : Bytes} {filled₀ filled filled' : ℕ} → filled₀ ≡ filled → Output (take filled₀ page) filled' page' → Output (take filled page) filled' page'
-output_from page e o = record { written = o.written; is = ap (λ (k : ℕ). take k page) (sym e) ∙ o.is }
-
 -- room is made
 pub output_room : (page : Bytes) (size filled need : ℕ) {r : ℕ} → r ≡ room_made size filled need → Output (take filled page) r page
 unfolding room_made

@@ -4,14 +4,12 @@ use native.Mathlib.Omega.{arith}
 use mathlib.Core.Path.{◌≡◌, sym, ap, ◌∙◌}
 use mathlib.Core.Bool.{Bool, true, false}
 use mathlib.Core.List.{[], ◌∷◌, ◌++◌, append_assoc}
-use lib.ListN.{length, take, drop, replicate, length-append, length-drop}
+use lib.ListN.{length, take, drop, length-append, length-drop}
 use lib.Seq.{take_at, length-take-le}
 use borrow.Rule.Slice.PartMut.{same_len_mid}
 use Rattle.base_key.specs.Bytes.{Bytes}
 use Rattle.base_number.specs.Decimal.{digits}
 use Rattle.base_number.proofs.Decimals.{digits_few}
-use Rattle.base_writing.specs.declared.Put.{Put}
-use Rattle.base_writing.specs.declared.Put.TheVariants.{Wrote, Full}
 use Rattle.base_writing.specs.Puts.{Puts}
 use Rattle.base_writing.proofs.Lent.{rest, with_rest, rest_is, with_rest_is}
 use Rattle.base_writing.proofs.Puts.{was_wrote, was_full, length_kept}
@@ -19,14 +17,15 @@ use Rattle.call_spec.specs.Frames.{hex}
 use Rattle.frames_lines.specs.declared.pieces.Mark.{Mark}
 use Rattle.frames_lines.specs.declared.pieces.Mark.TheVariants.{NoMark, Number, Dropped}
 use Rattle.frames_lines.specs.Pieces.{MarkFits, head_text, number_text, mark_or_dash, end_text, malformed_text}
-use Rattle.frames_console.specs.Page.{Added, ReplyFits, Moved, Free}
+use Rattle.frames_console.specs.Page.{Added, ReplyFits, Free}
 use Rattle.frames_lines.proofs.AnswerLaws.{hex_length}
+use Rattle.std.specs.Prelude.{Option, None, Some}
 
-module _ {text last : Bytes} (page : Bytes) (filled : ℕ) {put : Put} (p : Puts text (rest filled page) put last) where
+module _ {text last : Bytes} (page : Bytes) (filled : ℕ) {put : Option ℕ} (p : Puts text (rest filled page) put last) where
   rest_length : length (rest filled page) ≡ length page - filled
   rest_length = ap length (rest_is filled page) ∙ length-drop filled page
 
-  added : {n : ℕ} → filled ≤ length page → put ≡ Wrote n → Added text filled page (filled + n) (with_rest filled page last)
+  added : {n : ℕ} → filled ≤ length page → put ≡ Some n → Added text filled page (filled + n) (with_rest filled page last)
   added {n} h e =
       let w = was_wrote p e in
       let size = length-take-le filled page h in
@@ -38,27 +37,23 @@ module _ {text last : Bytes} (page : Bytes) (filled : ℕ) {put : Put} (p : Puts
         size = same_len_mid filled (length page - filled) page last (length_kept p);
       }
 
-  not_full : filled + length text ≤ length page → put ≡ Full → ⊥
+  not_full : filled + length text ≤ length page → put ≡ None → ⊥
   not_full h e = omega (arith, (was_full p e).long, rest_length)
 
 -- A REPLY
-module _ {page last reply : Bytes} {count filled : ℕ} {put : Put} (f : ReplyFits count reply filled page) (p : Puts (hex (take count reply)) (rest filled page) put last) where
-  pub reply_added : {n : ℕ} → put ≡ Wrote n → Added (hex (take count reply)) filled page (filled + n) (with_rest filled page last)
+module _ {page last reply : Bytes} {count filled : ℕ} {put : Option ℕ} (f : ReplyFits count reply filled page) (p : Puts (hex (take count reply)) (rest filled page) put last) where
+  pub reply_added : {n : ℕ} → put ≡ Some n → Added (hex (take count reply)) filled page (filled + n) (with_rest filled page last)
   reply_added e = added page filled p (omega (arith, f.room)) e
 
-  pub reply_never : put ≡ Full → Added (hex (take count reply)) filled page filled (with_rest filled page last)
+  pub reply_never : put ≡ None → Added (hex (take count reply)) filled page filled (with_rest filled page last)
   reply_never e = absurd (not_full page filled p (omega (arith, f.room, hex_length (take count reply), length-take-le count reply f.there)) e)
 
-pub reply_moved : {count filled filled' : ℕ} {reply front page page' : Bytes} → ReplyFits count reply filled page → Added (hex (take count reply)) filled page filled' page'
-    → front ≡ replicate (length (take count reply)) 0 → Moved count reply filled page filled' (front ++ drop count reply) page'
-reply_moved {count} {reply = reply} f a e = record { added = a; cleared = ap (λ (l : Bytes). l ++ drop count reply) (e ∙ ap (λ (k : ℕ). replicate k 0) (length-take-le count reply f.there)) }
-
 -- SHORT TEXTS: at most 32 bytes
-module _ {text page last : Bytes} {filled : ℕ} {put : Put} (room : Free 32 filled page) (p : Puts text (rest filled page) put last) where
-  pub short_added : {n : ℕ} → put ≡ Wrote n → Added text filled page (filled + n) (with_rest filled page last)
+module _ {text page last : Bytes} {filled : ℕ} {put : Option ℕ} (room : Free 32 filled page) (p : Puts text (rest filled page) put last) where
+  pub short_added : {n : ℕ} → put ≡ Some n → Added text filled page (filled + n) (with_rest filled page last)
   short_added e = added page filled p (omega (arith, room.room)) e
 
-  pub short_never : length text ≤ 32 → put ≡ Full → Added text filled page filled (with_rest filled page last)
+  pub short_never : length text ≤ 32 → put ≡ None → Added text filled page filled (with_rest filled page last)
   short_never short e = absurd (not_full page filled p (omega (arith, room.room)) e)
 
 pub head_short : (i : ℕ) → length (head_text i) ≤ 32

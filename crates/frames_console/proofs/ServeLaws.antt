@@ -16,15 +16,6 @@ use Rattle.frames_console.specs.Steps.{Fit, Serves, Stepping, Reached, SomeServe
 use Rattle.frames_lines.proofs.ServedLaws.{serving_last, serving_more}
 use Rattle.frames_console.proofs.StepLaws.{stepping_start, stepping_end, next_fit, next_left, next_served}
 
--- WHETHER IT GOES ON
-pub goes_by_room : (at : Progress) (size : ℕ) → at.full ≡ true → leb 65536 (size - at.filled) ≡ goes_on at size
-unfolding goes_on
-goes_by_room at size t = rw t
-
-pub goes_not : (at : Progress) (size : ℕ) → at.full ≡ false → false ≡ goes_on at size
-unfolding goes_on
-goes_not at size t = rw t
-
 -- a bound on the requests that are left
 pub left_of : Bytes → Progress → ℕ
 left_of held at = cond at.full (suc (length held - at.from)) 0
@@ -163,9 +154,6 @@ loop_start begun x f at e = record {
 }
 
 module _ {i size : ℕ} {held g₀ p₀ w₀ b₀ sw₀ sb₀ r₀ g p w b sw sb r : List ℕ} {at₀ at : Progress} (x : InLoop i held g₀ p₀ w₀ b₀ sw₀ sb₀ r₀ size at₀ g p w b sw sb r at) where
-  pub loop_inside : at.filled ≤ size
-  loop_inside = omega (arith, x.whole, x.progress.inside)
-
   -- behind the last
   pub loop_over : {c : Bool} → c ≡ goes_on at size → c ≡ false → SomeServed i held at₀.from at₀.replied at₀.filled g₀ (lent_of w₀ b₀ sw₀ sb₀) at g (lent_of w b sw sb)
   loop_over e t = progress_over size x.progress x.free x.whole (sym e ∙ t)

@@ -14,7 +14,7 @@ use borrow.Author.Tests.{le-leb, lt-leb, lt-ltb, le-ltb, ltb-true, ltb-false, le
 use Rattle.base_key.specs.Bytes.{Bytes}
 use Rattle.resp_spec.specs.Request.{read_request, spanned}
 use Rattle.command_spec.specs.declared.Answer.{Answer}
-use Rattle.call_spec.specs.Calls.{Lent, lent_of, valid, RequestPromise}
+use Rattle.call_spec.specs.Calls.{Lent, valid, RequestPromise}
 use Rattle.call_spec.specs.Frames.{closes, hex}
 use Rattle.frames_lines.specs.declared.pieces.Mark.{Mark}
 use Rattle.frames_lines.specs.declared.pieces.Mark.TheVariants.{NoMark, Number}
@@ -29,7 +29,6 @@ use Rattle.frames_console.specs.Page.{Added, ReplyFits, Moved}
 use Rattle.base_writing.proofs.Lent.{rest}
 use Rattle.frames_lines.proofs.LineLaws.{lent_is}
 use Rattle.frames_lines.proofs.ServedLaws.{serving_start, serving_end, serving_last, serving_more, serving_number, serving_waits, serving_used, told_some, told_none, reply_short, left_fit, cleared_again, cleared_number, cleared_waits}
-use Rattle.call_serve.specs.Serving.{ReadyAmong}
 
 -- WHAT IS DONE WITH
 pub done_all : (s : Bytes) {used : ℕ} → length s ≤ used → length s ≡ done_with s used
@@ -128,10 +127,6 @@ done_within s used nz h = go (leb (length s) used) (closes s (read_request 1024 
 -- THE REPLY BUFFER, all zero
 zeros : {b : Bytes} (n : ℕ) → b ≡ replicate n 0 → b ≡ replicate (length b) 0
 zeros {b} n e = e ∙ ap (λ (k : ℕ). replicate k 0) (sym (ap length e ∙ length-replicate n 0))
-
--- session i is lent
-pub step_ready : {i : ℕ} {w : List ℕ} {b : Bytes} {sw : List ℕ} {sb out : Bytes} → i < 16 → Fit (lent_of w b sw sb) out → ReadyAmong i w b sw sb out
-step_ready h f = record { below = h; fit = f.fit; cleared = f.cleared }
 
 -- THE LOOP over the bytes of a frame
 pub stepping_start : (i : ℕ) (held : Bytes) (from₀ : ℕ) (replied₀ : Bool) (filled₀ : ℕ) (page : Bytes) (l : Lent) {table : List ℕ} {buffer : Bytes} → Serves i held from₀ filled₀ page table buffer → Fit l buffer → Stepping i held from₀ replied₀ filled₀ page l from₀ replied₀ filled₀ page l
@@ -238,15 +233,6 @@ module _ {i from filled : ℕ} {held page page' : Bytes} {from₀ filled₀ : �
           after_is (no h) =
               let none : n ≤ 0 = omega arith in
               rw (le-ltb 0 n none) (told_none below ok some_bytes room p.call used.number used.some_used left_is replied (omega (arith, used.reply)))
-
--- WHETHER A REPLY BYTE WAS WRITTEN
-pub replied_more : (replied : Bool) {n : ℕ} → 0 < n → true ≡ replied_after replied n
-unfolding replied_after
-replied_more replied {n} h = rw (lt-ltb 0 n h)
-
-pub replied_same : (replied : Bool) {n : ℕ} → n ≤ 0 → replied ≡ replied_after replied n
-unfolding replied_after
-replied_same replied {n} h = rw (le-ltb 0 n h)
 
 -- a request call on the bytes that are left, and the step that its answer makes
 pub step_taken : (from : ℕ) (held : Bytes) {i : ℕ} {buffer buffer' : Bytes} {l l' : Lent} (n : ℕ) {a : Answer} {r : Step} → n ≡ 2048 → RequestPromise i (rest from held) (n / 2) buffer l a buffer' l' → r ≡ step_of (rest from held) a

@@ -1,12 +1,10 @@
 -- A line: how its answer is begun and how it is ended.
 use Rattle.std.specs.Prelude.{ℕ, ◌+◌, ◌-◌, ◌*◌, ◌<◌, false, cond, List, ◌++◌, ◌≡◌, ltb, length, set}
-use Rattle.std.proofs.Math.Option.{Option, none, some}
+use Rattle.std.specs.Prelude.{Option, None, Some}
 use Rattle.base_key.specs.Bytes.{Bytes, part}
 use Rattle.call_spec.specs.Frames as F
 use Rattle.frames_lines.specs.declared.pieces.Mark.{Mark}
 use Rattle.frames_lines.specs.declared.pieces.Mark.TheVariants.{Number, Dropped}
-use Rattle.frames_lines.specs.declared.rest.Kept.{Kept}
-use Rattle.frames_lines.specs.declared.rest.Kept.TheVariants.{Bytes as Count, TooLong}
 use Rattle.frames_console.specs.declared.serve.Progress.{Progress}
 use Rattle.frames_console.specs.declared.frame.Begun.{Begun}
 use Rattle.frames_console.specs.declared.frame.Begun.TheVariants.{Answered, Serve}
@@ -22,8 +20,8 @@ refused_text i = head_text i ++ end_text false (Number 1)
 
 -- what is put for a line before requests are served: the whole line where none are
 unfoldable pub begin_text : Option F.Given → Bytes
-begin_text none = malformed_text
-begin_text (some g) = cond (ltb g.session 16) (head_text g.session) (refused_text g.session)
+begin_text None = malformed_text
+begin_text (Some g) = cond (ltb g.session 16) (head_text g.session) (refused_text g.session)
 
 -- the bytes of the page in use
 abbrev pub filled_of : Begun → ℕ
@@ -32,8 +30,8 @@ filled_of (Serve i to n) = n
 
 -- whether requests are to be served, by the line
 unfoldable pub begun_as : Option F.Given → List ℕ → ℕ → Begun
-begun_as none counts n = Answered n
-begun_as (some g) counts n =
+begun_as None counts n = Answered n
+begun_as (Some g) counts n =
     cond (ltb g.session 16) (Serve g.session (count_at counts g.session + length g.input) n) (Answered n)
 
 -- THE CONTRACT of beginning a line: the answer, the page, and what the sessions hold; the frame's bytes stand behind those of its session
@@ -41,13 +39,13 @@ pub record Begins (line : Bytes) (filled : ℕ) (page : Bytes) (counts : List �
   pub answer : r ≡ begun_as (F.given line) counts (filled_of r)
   pub added : Added (begin_text (F.given line)) filled page (filled_of r) page'
   pub rests : rests_in counts held' ≡ rests_in counts held
-  pub bytes : (g : F.Given) → F.given line ≡ some g → g.session < 16
+  pub bytes : (g : F.Given) → F.given line ≡ Some g → g.session < 16
       → part (g.session * 8192) (count_at counts g.session + length g.input) held' ≡ held_at counts held g.session ++ g.input
 
 -- the mark of a frame whose rest was kept or dropped
-unfoldable pub mark_kept : Mark → Kept → Mark
-mark_kept mark (Count n) = mark
-mark_kept mark TooLong = Dropped
+unfoldable pub mark_kept : Mark → Option ℕ → Mark
+mark_kept mark (Some n) = mark
+mark_kept mark None = Dropped
 
 -- the rest of a frame whose bytes end at `to`
 abbrev pub rest_in : ℕ → ℕ → ℕ → Bytes → Bytes

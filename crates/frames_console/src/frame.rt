@@ -6,14 +6,11 @@ ghost use Rattle.frames_lines.specs.Held.{Memory, RestAt};
 ghost use Rattle.frames_console.specs.Lines.{refused_text, mark_kept, Begins, Ends};
 
 use crate::serve::Progress;
-use base_writing::Put;
-use frames_lines::line::Given;
 use frames_lines::pieces::Mark;
-use frames_lines::rest::Kept;
 use frames_lines::{held, pieces};
 
 // A line whose whole answer is put, with the bytes of the page in use; or a frame to serve: its session, the end of its bytes in the
-// session's part, and the bytes of the page in use.
+// session's part, and the bytes of the page in use. No `Result`: neither is a failure.
 #[derive(Clone, Copy)]
 pub enum Begun {
     Answered(usize),
@@ -25,7 +22,7 @@ fn add_malformed(page: &mut [u8], filled: usize) -> usize
     requires { Free 32 filled page.old }
     ensures { Added malformed_text filled page.old result page.new }
 {
-    let Put::Wrote(n) = pieces::put_malformed(&mut page[filled..]) else {
+    let Some(n) = pieces::put_malformed(&mut page[filled..]) else {
         return filled;
     };
     filled + n
@@ -37,7 +34,7 @@ fn add_session(page: &mut [u8], filled: usize, session: usize) -> usize
     requires session_bound { session < 100 }
     ensures { Added (head_text session) filled page.old result page.new }
 {
-    let Put::Wrote(n) = pieces::put_session(&mut page[filled..], session) else {
+    let Some(n) = pieces::put_session(&mut page[filled..], session) else {
         return filled;
     };
     filled + n
@@ -49,7 +46,7 @@ fn add_end(page: &mut [u8], filled: usize, replied: bool, mark: Mark) -> usize
     requires mark_fits { MarkFits mark }
     ensures { Added (end_text replied mark) filled page.old result page.new }
 {
-    let Put::Wrote(n) = pieces::put_end(&mut page[filled..], replied, mark) else {
+    let Some(n) = pieces::put_end(&mut page[filled..], replied, mark) else {
         return filled;
     };
     filled + n
@@ -72,8 +69,8 @@ pub fn begin(line: &[u8], page: &mut [u8], filled: usize, counts: &[u64], held: 
     ensures { Begins line.now filled page.old counts.now held.old result page.new held.new }
 {
     match held::read_frame(line, counts, held) {
-        Given::Malformed => Begun::Answered(add_malformed(page, filled)),
-        Given::Frame(session, count) => {
+        None => Begun::Answered(add_malformed(page, filled)),
+        Some((session, count)) => {
             if session < 16 {
                 let to = held::count_at(counts, session) + count;
                 return Begun::Serve(session, to, add_session(page, filled, session));
@@ -84,12 +81,13 @@ pub fn begin(line: &[u8], page: &mut [u8], filled: usize, counts: &[u64], held: 
 }
 
 // A rest above 4,096 bytes takes the place of the mark.
-fn mark_after(mark: Mark, kept: Kept) -> Mark
+#[tactic(auto, unfolding(crate::specs::Lines::mark_kept))]
+fn mark_after(mark: Mark, kept: Option<usize>) -> Mark
     ensures { result ≡ mark_kept mark kept }
 {
     match kept {
-        Kept::Bytes(_) => mark,
-        Kept::TooLong => Mark::Dropped,
+        Some(_) => mark,
+        None => Mark::Dropped,
     }
 }
 
@@ -109,7 +107,5 @@ pub fn end(
     ensures { Ends session to at page.old counts.old held.old result page.new counts.new held.new }
 {
     let kept = held::keep(counts, held, session, at.from, to);
-    let mark = at.mark;
-    let last = mark_after(mark, kept);
-    add_end(page, at.filled, at.replied, last)
+    add_end(page, at.filled, at.replied, mark_after(at.mark, kept))
 }

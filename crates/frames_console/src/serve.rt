@@ -7,7 +7,6 @@ ghost use Rattle.frames_console.specs.Steps.{Fit, Serves, StepFits, After, NextS
 
 use crate::step;
 use crate::step::Step;
-use base_writing::Put;
 use frames_lines::pieces;
 use frames_lines::pieces::Mark;
 
@@ -30,7 +29,7 @@ fn put_reply(page: &mut [u8], filled: usize, reply: &[u8], count: usize) -> usiz
     requires { ReplyFits count reply.now filled page.old }
     ensures { Added (hex (take count reply.now)) filled page.old result page.new }
 {
-    let Put::Wrote(n) = pieces::put_hex(&mut page[filled..], &reply[..count]) else {
+    let Some(n) = pieces::put_hex(&mut page[filled..], &reply[..count]) else {
         return filled;
     };
     filled + n
@@ -54,17 +53,14 @@ fn after_step(at: Progress, size: usize, step: Step, page: &mut [u8], reply: &mu
     match step {
         Step::Refused(n) => Progress {
             from: size,
-            replied: at.replied,
-            filled: at.filled,
             full: false,
             mark: Mark::Number(n),
+            ..at
         },
         Step::Waits => Progress {
-            from: at.from,
-            replied: at.replied,
-            filled: at.filled,
             full: false,
             mark: Mark::NoMark,
+            ..at
         },
         Step::Used(used, count) => {
             let from = at.from + used;
@@ -107,14 +103,12 @@ fn serve_next(
 }
 
 // Whether the frame goes on: it is not over, and one more reply fits a page of `size` bytes.
+#[tactic(auto, unfolding(crate::specs::Steps::goes_on))]
 fn goes_on(at: Progress, size: usize) -> bool
     requires { at.filled ≤ size }
     ensures { result ≡ goes_on at size }
 {
-    if at.full {
-        return REPLY_TEXT <= size - at.filled;
-    }
-    false
+    at.full && REPLY_TEXT <= size - at.filled
 }
 
 // Serves the requests of a frame from `begun.from` on until it is over or the page is full.
@@ -137,11 +131,9 @@ pub fn serve_some(
 {
     let size = page.len();
     let mut at = Progress {
-        from: begun.from,
-        replied: begun.replied,
-        filled: begun.filled,
         full: begun.from < held.len(),
         mark: Mark::NoMark,
+        ..begun
     };
     while goes_on(at, size) {
         at = serve_next(

@@ -52,11 +52,9 @@ pub fn step_of(input: &[u8], places: &[u64], answer: Answer) -> Step
 }
 
 // Whether a reply byte was written, after `count` more.
+#[tactic(auto, unfolding(crate::specs::Steps::replied_after))]
 pub fn replied_after(replied: bool, count: usize) -> bool
     ensures { result ≡ replied_after replied count }
 {
-    if 0 < count {
-        return true;
-    }
-    replied
+    replied || 0 < count
 }

@@ -2,31 +2,20 @@
 use Prim.Native.Nat.{ℕ, ◌+◌, ◌*◌, ◌/◌, ◌%◌, ◌≤◌, ◌<◌}
 use native.Mathlib.Numerals.{add-one}
 use native.Mathlib.Omega.{arith}
-use mathlib.Core.Path.{◌≡◌, refl, sym, ap, ap₂, ◌∙◌}
-use mathlib.Core.Bool.{Bool, true, false}
+use mathlib.Core.Path.{◌≡◌, refl, sym, ap, ap₂, ◌∙◌, subst}
+use mathlib.Core.Bool.{Bool, true}
 use mathlib.Core.List.{List, [], ◌∷◌, ◌++◌, map, append_assoc, append-nil}
 use lib.ListN.{length, take, set, get_or, replicate}
 use lib.Seq.{take-suc, take_all}
-use borrow.Author.Tests.{le-leb, lt-leb}
 use Rattle.base_key.specs.Bytes.{Bytes, concat}
 use Rattle.base_number.specs.Decimal.{digits}
-use Rattle.base_writing.specs.declared.Put.{Put}
-use Rattle.base_writing.specs.declared.Put.TheVariants.{Wrote, Full}
 use Rattle.base_writing.specs.Puts.{Puts, Adds}
-use Rattle.base_writing.proofs.Puts.{Written, nothing, stored, full, done, same_length, then_puts, same_text, puts_nothing}
+use Rattle.base_writing.proofs.Puts.{Written, nothing, stored, full, done, same_length, then_puts, puts_nothing}
 use Rattle.call_spec.specs.Frames.{hex_digit, hex, or_dash, shown, Frame}
 use Rattle.frames_lines.specs.declared.pieces.Mark.{Mark}
 use Rattle.frames_lines.specs.declared.pieces.Mark.TheVariants.{NoMark, Number, Dropped}
-use Rattle.frames_lines.specs.Pieces.{head_text, number_text, mark_text, mark_or_dash, end_text, malformed_text, some?, pieces}
-
--- A DIGIT
-pub digit_low : {n : ℕ} → n ≤ 9 → 48 + n ≡ hex_digit n
-unfolding hex_digit
-digit_low {n} h = rw (le-leb n 9 h)
-
-pub digit_high : {n : ℕ} → 9 < n → 87 + n ≡ hex_digit n
-unfolding hex_digit
-digit_high {n} h = rw (lt-leb n 9 h)
+use Rattle.frames_lines.specs.Pieces.{head_text, number_text, mark_text, mark_or_dash, end_text, some?, pieces}
+use Rattle.std.specs.Prelude.{Option, None, Some}
 
 -- HEXADECIMAL of bytes
 pub hex_append : (s t : Bytes) → hex (s ++ t) ≡ hex s ++ hex t
@@ -69,52 +58,30 @@ hexing_more {reply} {entry} {out} {i} {h} {l} x below eh el =
       written = rw count at second;
     }
 
-pub hexing_whole : {reply entry out : Bytes} {i : ℕ} → Hexing reply entry i out → length reply ≤ i → Puts (hex reply) entry (Wrote (i * 2)) out
-hexing_whole {reply} {entry} {out} {i} x all = done x.written (ap hex (sym (take_all i reply all)))
+pub hexing_whole : {reply entry out : Bytes} {i : ℕ} → Hexing reply entry i out → length reply ≤ i → Puts (hex reply) entry (Some (length reply * 2)) out
+hexing_whole {reply} {entry} {out} {i} x all =
+    let e : i ≡ length reply = omega (arith, x.within) in
+    subst (λ (n : ℕ). Puts (hex reply) entry (Some (n * 2)) out) e (done x.written (ap hex (sym (take_all i reply all))))
 
-pub hex_too_long : (reply : Bytes) {entry exit : Bytes} → length entry / 2 < length reply → exit ≡ replicate (length entry) 0 → Puts (hex reply) entry Full exit
+pub hex_too_long : (reply : Bytes) {entry exit : Bytes} → length entry / 2 < length reply → exit ≡ replicate (length entry) 0 → Puts (hex reply) entry None exit
 hex_too_long reply {entry} long e = full (omega (arith, hex_length reply)) e
 
 -- THE SMALL PIECES
-pub session_text : (i : ℕ) {start a b exit : Bytes} {p q r : Put} → Puts ((48 + i / 10) ∷ []) start p a → Adds ((48 + i % 10) ∷ []) p a q b → Adds (32 ∷ []) q b r exit → Puts (head_text i) start r exit
+pub session_text : (i : ℕ) {start a b exit : Bytes} {p q r : Option ℕ} → Puts ((48 + i / 10) ∷ []) start p a → Adds ((48 + i % 10) ∷ []) p a q b → Adds (32 ∷ []) q b r exit → Puts (head_text i) start r exit
 unfolding head_text
 session_text i p a b = then_puts (then_puts p a) b
 
-pub number_text_lem : (n : ℕ) {start a exit : Bytes} {p q : Put} → Puts (33 ∷ []) start p a → Adds (digits n) p a q exit → Puts (number_text n) start q exit
+pub number_text_lem : (n : ℕ) {start a exit : Bytes} {p q : Option ℕ} → Puts (33 ∷ []) start p a → Adds (digits n) p a q exit → Puts (number_text n) start q exit
 unfolding number_text
 number_text_lem n p a = then_puts p a
 
-pub no_mark_text : {replied : Bool} {m : Mark} {start : Bytes} → replied ≡ true → m ≡ NoMark → Puts (mark_or_dash replied m) start (Wrote 0) start
+pub no_mark_text : {replied : Bool} {m : Mark} {start : Bytes} → replied ≡ true → m ≡ NoMark → Puts (mark_or_dash replied m) start (Some 0) start
 unfolding mark_or_dash
 no_mark_text {start = start} t e = rw (t, e) (puts_nothing start)
 
-pub dash_text : {replied : Bool} {m : Mark} {start exit : Bytes} {p : Put} → replied ≡ false → m ≡ NoMark → Puts (45 ∷ []) start p exit → Puts (mark_or_dash replied m) start p exit
-unfolding mark_or_dash
-dash_text t e p = rw (t, e) p
-
-number_is : (replied : Bool) (n : ℕ) → mark_or_dash replied (Number n) ≡ number_text n
-unfolding mark_or_dash
-number_is true n = refl
-number_is false n = refl
-
-dropped_is : (replied : Bool) → mark_or_dash replied Dropped ≡ 33 ∷ []
-unfolding mark_or_dash
-dropped_is true = refl
-dropped_is false = refl
-
-pub mark_text_lem : (replied : Bool) {m : Mark} {n : ℕ} {start exit : Bytes} {p : Put} → m ≡ Number n → Puts (number_text n) start p exit → Puts (mark_or_dash replied m) start p exit
-mark_text_lem replied {m} {n} e p = same_text (ap (mark_or_dash replied) e ∙ number_is replied n) p
-
-pub dropped_text : (replied : Bool) {m : Mark} {start exit : Bytes} {p : Put} → m ≡ Dropped → Puts (33 ∷ []) start p exit → Puts (mark_or_dash replied m) start p exit
-dropped_text replied {m} e p = same_text (ap (mark_or_dash replied) e ∙ dropped_is replied) p
-
-pub end_text_lem : (replied : Bool) (m : Mark) {start a exit : Bytes} {p q : Put} → Puts (mark_or_dash replied m) start p a → Adds (10 ∷ []) p a q exit → Puts (end_text replied m) start q exit
+pub end_text_lem : (replied : Bool) (m : Mark) {start a exit : Bytes} {p q : Option ℕ} → Puts (mark_or_dash replied m) start p a → Adds (10 ∷ []) p a q exit → Puts (end_text replied m) start q exit
 unfolding end_text
 end_text_lem replied m p a = then_puts p a
-
-pub malformed_text_lem : {start exit : Bytes} {p : Put} → Puts (63 ∷ 10 ∷ []) start p exit → Puts malformed_text start p exit
-unfolding malformed_text
-malformed_text_lem p = p
 
 -- THE LINE. The pieces in their order are the line that `shown` says, and its end.
 hex_concat : (replies : List Bytes) → concat (map hex replies) ≡ hex (concat replies)

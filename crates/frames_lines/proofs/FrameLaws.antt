@@ -5,7 +5,7 @@ use native.Mathlib.Omega.{arith}
 use mathlib.Core.Path.{◌≡◌, refl, sym, ap, ap₂, ◌∙◌}
 use mathlib.Core.Bool.{Bool, false}
 use mathlib.Core.List.{List, [], ◌∷◌, ◌++◌, append_assoc}
-use mathlib.Core.Option.{none, some}
+use Rattle.std.specs.Prelude.{None, Some}
 use lib.ListN.{length, get_or, set, length-append}
 use lib.Seq.{set_out}
 use borrow.Author.Tests.{le-leb, lt-leb}
@@ -40,7 +40,7 @@ rest_marked replies rest m st = go (dec_le (length rest) 4096)
 -- a frame of a session below 16: its requests are served behind `t` and its session
 pub frame_answered : (g : Given) (c : Console) (t : Bytes) {s t' : Bytes} {l l' : Lent} {replied : Bool} {mark : Mark} {rest : Bytes} → c.state ≡ state_in l → s ≡ get_or c.rests g.session [] ++ g.input
     → FrameServed g.session s l false (t ++ head_text g.session) mark rest l' replied t'
-    → Answered (some g) c t (record { state = state_in l'; rests = set c.rests g.session (rest_of rest) }) (t' ++ end_text replied (mark_after mark rest))
+    → Answered (Some g) c t (record { state = state_in l'; rests = set c.rests g.session (rest_of rest) }) (t' ++ end_text replied (mark_after mark rest))
 unfolding answer_given requests_left or_some
 frame_answered g c t {s} {t'} {l} {l'} {replied} {mark} {rest} state bytes f =
     record { out = pieces_are ∙ ap (λ (x : Bytes). t ++ x) (sym (ap (λ (x : Frame). shown i x ++ 10 ∷ []) whole ∙ line_is i f.replies (rest_of rest) (mark_after mark rest) (state_in l'))); console = ap (λ (x : Frame). record { state = x.state; rests = set c.rests i x.rest }) whole }
@@ -63,7 +63,7 @@ unfolding held_rest
 nothing_held mark st = refl
 
 -- a frame of a session above 15
-pub frame_refused : (g : Given) (c : Console) → 16 ≤ g.session → 1 ≤ length g.input → length c.rests ≡ 16 → (t : Bytes) → Answered (some g) c t c (t ++ (head_text g.session ++ end_text false (Number 1)))
+pub frame_refused : (g : Given) (c : Console) → 16 ≤ g.session → 1 ≤ length g.input → length c.rests ≡ 16 → (t : Bytes) → Answered (Some g) c t c (t ++ (head_text g.session ++ end_text false (Number 1)))
 unfolding answer_given mark_text number_text digits digits_within hex
 frame_refused g c above some_bytes many t =
     record { out = ap (λ (x : Bytes). t ++ x) (sym (ap (λ (x : Frame). shown g.session x ++ 10 ∷ []) whole ∙ line_is g.session [] [] (Number 1) c.state)); console = ap (λ (x : Frame). record { state = x.state; rests = set c.rests g.session x.rest }) whole ∙ ap (λ (r : List Bytes). record { state = c.state; rests = r }) (set_out c.rests g.session [] (omega arith)) }
@@ -78,6 +78,6 @@ frame_refused g c above some_bytes many t =
         ∙ nothing_held (mark_text (Number 1)) c.state
 
 -- a line of another form
-pub malformed_line : (c : Console) (t : Bytes) → Answered none c t c (t ++ malformed_text)
+pub malformed_line : (c : Console) (t : Bytes) → Answered None c t c (t ++ malformed_text)
 unfolding answer_given malformed_text
 malformed_line c t = record { out = refl; console = refl }

@@ -5,7 +5,7 @@ use native.Mathlib.Omega.{arith}
 use mathlib.Core.Path.{◌≡◌, refl, sym, ap, ap₂, ◌∙◌}
 use mathlib.Core.Bool.{Bool, true, false, cond, ◌&&◌}
 use mathlib.Core.List.{List, [], ◌++◌}
-use mathlib.Core.Option.{Option, none, some}
+use Rattle.std.specs.Prelude.{Option, None, Some}
 use lib.ListN.{length, take, drop, get_or, set, length-drop, length-set}
 use lib.Dec.{leb}
 use lib.Seq.{drop_at, drop-append-le, take-append-le, ext_get_or, take_at, take-take, drop-drop, get_or-drop, get_or-take, get_or-set_same, get_or-set_other, length-take-le}
@@ -13,12 +13,6 @@ use borrow.Author.Tests.{leb-true}
 use borrow.Rule.Slice.PartMut.{mid_of, put_mid, same_len_mid, mid_len, take_put, drop_put}
 use Rattle.base_key.specs.Bytes.{Bytes, part}
 use Rattle.call_spec.specs.Frames as F
-use Rattle.frames_lines.specs.declared.line.Given.{Given}
-use Rattle.frames_lines.specs.declared.line.Given.TheVariants.{Malformed}
-use Rattle.frames_lines.specs.declared.line.Head.{Head}
-use Rattle.frames_lines.specs.declared.line.Head.TheVariants.{Session, NoSession}
-use Rattle.frames_lines.specs.declared.rest.Kept.{Kept}
-use Rattle.frames_lines.specs.declared.rest.Kept.TheVariants.{Bytes as Count, TooLong}
 use Rattle.frames_lines.specs.Line.{head_of, input_of, LineRead}
 use Rattle.frames_lines.specs.Rest.{kept_of, held_of, rest_of, Keeps}
 use Rattle.frames_lines.specs.Held.{Memory, count_at, held_at, rests_in, slot_of, FrameRead, RestAt, RestKept}
@@ -124,29 +118,29 @@ module _ (counts : List ℕ) (held last : Bytes) (i : ℕ) (below : i < 16) (siz
       go (no h) (no k) = let e : j ≡ i = omega arith in absurd (n e)
 
 -- READING A LINE into a session's part
-pub session_is : (i : ℕ) (o : Option Bytes) (g : F.Given) → F.given_of true i o ≡ some g → g.session ≡ i
+pub session_is : (i : ℕ) (o : Option Bytes) (g : F.Given) → F.given_of true i o ≡ Some g → g.session ≡ i
 unfolding F.given_of
-session_is i none g e = let z : ◌≡◌ {A = ℕ} 0 1 = cc in absurd (omega arith)
-session_is i (some s) g e = go (leb 1 (length s) && leb (length s) 4096) e
+session_is i None g e = let z : ◌≡◌ {A = ℕ} 0 1 = cc in absurd (omega arith)
+session_is i (Some s) g e = go (leb 1 (length s) && leb (length s) 4096) e
   where
-    go : (b : Bool) → cond b (some (record { session = i; input = s })) none ≡ some g → g.session ≡ i
+    go : (b : Bool) → cond b (Some (record { session = i; input = s })) None ≡ Some g → g.session ≡ i
     go true e = let f : record { session = i; input = s } ≡ g = cc in sym (ap (λ (x : F.Given). x.session) f)
     go false e = let z : ◌≡◌ {A = ℕ} 0 1 = cc in absurd (omega arith)
 
-pub input_size : (i : ℕ) (o : Option Bytes) (g : F.Given) → F.given_of true i o ≡ some g → length g.input ≤ 4096
+pub input_size : (i : ℕ) (o : Option Bytes) (g : F.Given) → F.given_of true i o ≡ Some g → length g.input ≤ 4096
 unfolding F.given_of
-input_size i none g e = let z : ◌≡◌ {A = ℕ} 0 1 = cc in absurd (omega arith)
-input_size i (some s) g e = go (leb 1 (length s)) (leb (length s) 4096) refl e
+input_size i None g e = let z : ◌≡◌ {A = ℕ} 0 1 = cc in absurd (omega arith)
+input_size i (Some s) g e = go (leb 1 (length s)) (leb (length s) 4096) refl e
   where
-    go : (b c : Bool) → leb (length s) 4096 ≡ c → cond (b && c) (some (record { session = i; input = s })) none ≡ some g → length g.input ≤ 4096
+    go : (b c : Bool) → leb (length s) 4096 ≡ c → cond (b && c) (Some (record { session = i; input = s })) None ≡ Some g → length g.input ≤ 4096
     go true true t e = let f : record { session = i; input = s } ≡ g = cc in omega (arith, leb-true (length s) 4096 t, ap (λ (x : F.Given). length x.input) f)
     go true false t e = let z : ◌≡◌ {A = ℕ} 0 1 = cc in absurd (omega arith)
     go false c t e = let z : ◌≡◌ {A = ℕ} 0 1 = cc in absurd (omega arith)
 
-whole_input : (line : Bytes) {i : ℕ} → Headed line i → (g : F.Given) → F.given line ≡ some g → length g.input ≤ 4096
+whole_input : (line : Bytes) {i : ℕ} → Headed line i → (g : F.Given) → F.given line ≡ Some g → length g.input ≤ 4096
 whole_input line {i} h g e = input_size i (F.unhex (drop 3 line)) g (sym h.is ∙ e)
 
-pub frame_malformed : (line : Bytes) (counts : List ℕ) (held : Bytes) {r : Head} → r ≡ head_of line → r ≡ NoSession → FrameRead line counts held Malformed held
+pub frame_malformed : (line : Bytes) (counts : List ℕ) (held : Bytes) {r : Option ℕ} → r ≡ head_of line → r ≡ None → FrameRead line counts held None held
 frame_malformed line counts held {r} read e =
     let g = not_given line r read e in
     record {
@@ -156,7 +150,7 @@ frame_malformed line counts held {r} read e =
       size = refl;
     }
 
-module _ (line : Bytes) (counts : List ℕ) (held : Bytes) {h : Head} {i slot at : ℕ} {r : Given} {last : Bytes} (m : Memory counts held) (read : h ≡ head_of line) (told : h ≡ Session i) (place : slot ≡ slot_of i) (count : at ≡ count_at counts slot)
+module _ (line : Bytes) (counts : List ℕ) (held : Bytes) {h : Option ℕ} {i slot at : ℕ} {r : Option (ℕ × ℕ)} {last : Bytes} (m : Memory counts held) (read : h ≡ head_of line) (told : h ≡ Some i) (place : slot ≡ slot_of i) (count : at ≡ count_at counts slot)
     (is : LineRead line at (mid_of (slot * 8192) (slot * 8192 + 8192 - slot * 8192) held) r last) where
   below16 : slot < 16
   below16 = omega arith
@@ -189,7 +183,7 @@ module _ (line : Bytes) (counts : List ℕ) (held : Bytes) {h : Head} {i slot at
       ∙ own_is at (omega arith) ∙ front ∙ own_was at (omega arith)
       ∙ ap (λ (k : ℕ). part (slot * 8192) k held) count
 
-  at_slot : (g : F.Given) → F.given line ≡ some g → part (slot * 8192) (count_at counts slot + length g.input) (put_mid (slot * 8192) (slot * 8192 + 8192 - slot * 8192) held last) ≡ held_at counts held slot ++ g.input
+  at_slot : (g : F.Given) → F.given line ≡ Some g → part (slot * 8192) (count_at counts slot + length g.input) (put_mid (slot * 8192) (slot * 8192 + 8192 - slot * 8192) held last) ≡ held_at counts held slot ++ g.input
   unfolding held_at
   at_slot g e =
       let input = whole_input line (headed line h read i told) g e in
@@ -210,7 +204,7 @@ module _ (line : Bytes) (counts : List ℕ) (held : Bytes) {h : Head} {i slot at
       which j (yes e) = rw e own_kept
       which j (no n) = others_same counts held last slot below16 m.bytes is.size j n
 
-      frame_bytes : (g : F.Given) → F.given line ≡ some g
+      frame_bytes : (g : F.Given) → F.given line ≡ Some g
           → part (slot_of g.session * 8192) (count_at counts (slot_of g.session) + length g.input) (put_mid (slot * 8192) (slot * 8192 + 8192 - slot * 8192) held last) ≡ held_at counts held (slot_of g.session) ++ g.input
       frame_bytes g e =
           let own : g.session ≡ i = session_is i (F.unhex (drop 3 line)) g (sym (headed line h read i told).is ∙ e) in
@@ -218,15 +212,15 @@ module _ (line : Bytes) (counts : List ℕ) (held : Bytes) {h : Head} {i slot at
           rw s (at_slot g e)
 
 -- KEEPING A REST in a session's part
-count_fits : (n k : ℕ) → kept_of n ≡ Count k → k ≤ 4096
+count_fits : (n k : ℕ) → kept_of n ≡ Some k → k ≤ 4096
 unfolding kept_of
 count_fits n k e = go (leb n 4096) refl e
   where
-    go : (b : Bool) → leb n 4096 ≡ b → cond b (Count n) TooLong ≡ Count k → k ≤ 4096
+    go : (b : Bool) → leb n 4096 ≡ b → cond b (Some n) None ≡ Some k → k ≤ 4096
     go true t e = let f : n ≡ k = cc in omega (arith, leb-true n 4096 t)
     go false t e = let z : ◌≡◌ {A = ℕ} 0 1 = cc in absurd (omega arith)
 
-module _ (counts : List ℕ) (held : Bytes) (i from to : ℕ) {r : Kept} {last : Bytes} (m : Memory counts held) (p : RestAt i from to) (k : Keeps from to (mid_of (i * 8192) (i * 8192 + 8192 - i * 8192) held) r last) where
+module _ (counts : List ℕ) (held : Bytes) (i from to : ℕ) {r : Option ℕ} {last : Bytes} (m : Memory counts held) (p : RestAt i from to) (k : Keeps from to (mid_of (i * 8192) (i * 8192 + 8192 - i * 8192) held) r last) where
   part_inside : i * 8192 + 8192 ≤ length held
   part_inside = omega (arith, m.bytes, p.session)
 
@@ -259,9 +253,9 @@ module _ (counts : List ℕ) (held : Bytes) (i from to : ℕ) {r : Kept} {last :
     bytes = kept_length (i * 8192) held last part_inside k.size;
   }
 
-  kept_fits : (q : Kept) → q ≡ kept_of (to - from) → held_of q ≤ 4096
-  kept_fits (Count n) e = count_fits (to - from) n (sym e)
-  kept_fits TooLong e = omega arith
+  kept_fits : (q : Option ℕ) → q ≡ kept_of (to - from) → held_of q ≤ 4096
+  kept_fits (Some n) e = count_fits (to - from) n (sym e)
+  kept_fits None e = omega arith
 
   pub rest_kept : {n : ℕ} → n ≡ held_of r → RestKept i from to counts held r (set counts i n) (put_mid (i * 8192) (i * 8192 + 8192 - i * 8192) held last)
   rest_kept {n} e = kept_as n (sym e) (omega (arith, kept_fits r k.answer))

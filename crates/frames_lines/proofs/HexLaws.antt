@@ -5,51 +5,19 @@ use native.Mathlib.Numerals.{add-one}
 use native.Mathlib.Omega.{arith}
 use mathlib.Core.Path.{◌≡◌, refl, sym, ap, ◌∙◌}
 use mathlib.Core.List.{[], ◌∷◌, ◌++◌, append_assoc, append-nil}
-use mathlib.Core.Option.{Option, none, some}
+use Rattle.std.specs.Prelude.{Option, None, Some}
 use lib.ListN.{length, take, drop, set, get_or, drop_of_length-le}
 use lib.Seq.{drop-cons, take_at}
 use borrow.Author.Tests.{le-leb, lt-leb}
 use Rattle.base_key.specs.Bytes.{Bytes}
-use Rattle.base_writing.proofs.Puts.{Written, nothing, stored, same_length}
+use Rattle.base_writing.proofs.Puts.{Written, stored, same_length}
 use Rattle.call_spec.specs.Frames.{hex_value, join_hex, unhex}
-use Rattle.frames_lines.specs.declared.line.Pair.{Pair}
-use Rattle.frames_lines.specs.declared.line.Pair.TheVariants.{Byte, NoByte}
-use Rattle.frames_lines.specs.declared.line.Decoded.TheVariants.{Bytes as Count, NoBytes}
 use Rattle.frames_lines.specs.Line.{or_sixteen, pair_of, Decodes}
-
--- A DIGIT, by the range of its byte.
-module _ {b : ℕ} where
-  pub hex_low : b < 48 → 16 ≡ or_sixteen (hex_value b)
-  unfolding hex_value
-  hex_low h = let n : b < 97 = omega arith in rw (lt-leb 48 b h, lt-leb 97 b n)
-
-  pub hex_decimal : 48 ≤ b → b ≤ 57 → b - 48 ≡ or_sixteen (hex_value b)
-  unfolding hex_value
-  hex_decimal h k = rw (le-leb 48 b h, le-leb b 57 k)
-
-  pub hex_between : 57 < b → b < 97 → 16 ≡ or_sixteen (hex_value b)
-  unfolding hex_value
-  hex_between h k = let n : 48 ≤ b = omega arith in rw (le-leb 48 b n, lt-leb b 57 h, lt-leb 97 b k)
-
-  pub hex_letter : 97 ≤ b → b ≤ 102 → b - 87 ≡ or_sixteen (hex_value b)
-  unfolding hex_value
-  hex_letter h k =
-      let n : 48 ≤ b = omega arith in
-      let m : 57 < b = omega arith in
-      rw (le-leb 48 b n, lt-leb b 57 m, le-leb 97 b h, le-leb b 102 k)
-
-  pub hex_high : 102 < b → 16 ≡ or_sixteen (hex_value b)
-  unfolding hex_value
-  hex_high h =
-      let n : 48 ≤ b = omega arith in
-      let m : 57 < b = omega arith in
-      let k : 97 ≤ b = omega arith in
-      rw (le-leb 48 b n, lt-leb b 57 m, le-leb 97 b k, lt-leb b 102 h)
 
 -- a digit has a value below 16, or none
 pub data Digit (b : ℕ) : Type 0 where
-  no_digit : hex_value b ≡ none → Digit b
-  digit : (v : ℕ) → v < 16 → hex_value b ≡ some v → Digit b
+  no_digit : hex_value b ≡ None → Digit b
+  digit : (v : ℕ) → v < 16 → hex_value b ≡ Some v → Digit b
 
 pub digit_of : (b : ℕ) → Digit b
 unfolding hex_value
@@ -64,60 +32,48 @@ digit_of b = go (dec_le 48 b) (dec_le b 57) (dec_le 97 b) (dec_le b 102)
 
 -- A BYTE FROM TWO DIGITS
 module _ (high low : ℕ) {h l : ℕ} (ph : h ≡ or_sixteen (hex_value high)) (pl : l ≡ or_sixteen (hex_value low)) where
-  pub pair_high : 16 ≤ h → NoByte ≡ pair_of (hex_value high) (hex_value low)
+  pub pair_high : 16 ≤ h → None ≡ pair_of (hex_value high) (hex_value low)
   unfolding pair_of
   pair_high big = go (digit_of high)
     where
-      go : Digit high → NoByte ≡ pair_of (hex_value high) (hex_value low)
+      go : Digit high → None ≡ pair_of (hex_value high) (hex_value low)
       go (no_digit e) = rw e
       go (digit v below e) = absurd (omega (arith, ph ∙ ap or_sixteen e))
 
-  pub pair_low : 16 ≤ l → NoByte ≡ pair_of (hex_value high) (hex_value low)
+  pub pair_low : 16 ≤ l → None ≡ pair_of (hex_value high) (hex_value low)
   unfolding pair_of
   pair_low big = go (digit_of high) (digit_of low)
     where
-      go : Digit high → Digit low → NoByte ≡ pair_of (hex_value high) (hex_value low)
+      go : Digit high → Digit low → None ≡ pair_of (hex_value high) (hex_value low)
       go (no_digit e) d = rw e
       go (digit v below e) (no_digit f) = rw (e, f)
       go (digit v below e) (digit w under f) = absurd (omega (arith, pl ∙ ap or_sixteen f))
 
-  pub pair_both : h < 16 → l < 16 → Byte (h * 16 + l) ≡ pair_of (hex_value high) (hex_value low)
-  unfolding pair_of
-  pair_both bh bl = go (digit_of high) (digit_of low)
-    where
-      go : Digit high → Digit low → Byte (h * 16 + l) ≡ pair_of (hex_value high) (hex_value low)
-      go (no_digit e) d = absurd (omega (arith, ph ∙ ap or_sixteen e))
-      go (digit v below e) (no_digit f) = absurd (omega (arith, pl ∙ ap or_sixteen f))
-      go (digit v below e) (digit w under f) =
-          let eh : h ≡ v = ph ∙ ap or_sixteen e in
-          let el : l ≡ w = pl ∙ ap or_sixteen f in
-          rw (e, f, eh, el)
-
 -- A TEXT. Bytes in front of those that the rest of a text gives
 abbrev prefixed : Bytes → Option Bytes → Option Bytes
-prefixed s none = none
-prefixed s (some t) = some (s ++ t)
+prefixed s None = None
+prefixed s (Some t) = Some (s ++ t)
 
 prefixed_nil : (o : Option Bytes) → o ≡ prefixed [] o
-prefixed_nil none = refl
-prefixed_nil (some t) = refl
+prefixed_nil None = refl
+prefixed_nil (Some t) = refl
 
 prefixed_more : (s : Bytes) (b : ℕ) (o : Option Bytes) → prefixed s (prefixed (b ∷ []) o) ≡ prefixed (s ++ b ∷ []) o
-prefixed_more s b none = refl
-prefixed_more s b (some t) = ap some (sym (append_assoc s (b ∷ []) t))
+prefixed_more s b None = refl
+prefixed_more s b (Some t) = ap Some (sym (append_assoc s (b ∷ []) t))
 
-join_byte : (o p : Option ℕ) (r : Option Bytes) {b : ℕ} → pair_of o p ≡ Byte b → join_hex o p r ≡ prefixed (b ∷ []) r
+join_byte : (o p : Option ℕ) (r : Option Bytes) {b : ℕ} → pair_of o p ≡ Some b → join_hex o p r ≡ prefixed (b ∷ []) r
 unfolding pair_of join_hex
-join_byte none p r e = let z : ◌≡◌ {A = ℕ} 0 1 = cc in absurd (omega arith)
-join_byte (some h) none r e = let z : ◌≡◌ {A = ℕ} 0 1 = cc in absurd (omega arith)
-join_byte (some h) (some l) none e = refl
-join_byte (some h) (some l) (some s) {b} e = let k : h * 16 + l ≡ b = cc in ap (λ (x : ℕ). some (x ∷ s)) k
+join_byte None p r e = let z : ◌≡◌ {A = ℕ} 0 1 = cc in absurd (omega arith)
+join_byte (Some h) None r e = let z : ◌≡◌ {A = ℕ} 0 1 = cc in absurd (omega arith)
+join_byte (Some h) (Some l) None e = refl
+join_byte (Some h) (Some l) (Some s) {b} e = let k : h * 16 + l ≡ b = cc in ap (λ (x : ℕ). Some (x ∷ s)) k
 
-join_none : (o p : Option ℕ) (r : Option Bytes) → pair_of o p ≡ NoByte → join_hex o p r ≡ none
+join_none : (o p : Option ℕ) (r : Option Bytes) → pair_of o p ≡ None → join_hex o p r ≡ None
 unfolding pair_of join_hex
-join_none none p r e = refl
-join_none (some h) none r e = refl
-join_none (some h) (some l) r e = let z : ◌≡◌ {A = ℕ} 0 1 = cc in absurd (omega arith)
+join_none None p r e = refl
+join_none (Some h) None r e = refl
+join_none (Some h) (Some l) r e = let z : ◌≡◌ {A = ℕ} 0 1 = cc in absurd (omega arith)
 
 -- two digits more
 two_digits : (text : Bytes) (n : ℕ) → n * 2 + 1 < length text
@@ -139,12 +95,8 @@ pub record Decoding (text entry : Bytes) (count n : ℕ) (out : Bytes) : Type 0 
   pub is : unhex text ≡ prefixed front (unhex (drop (n * 2) text))
   pub written : Written front entry n out
 
-pub decoding_none : (text entry : Bytes) → length text ≤ length text / 2 * 2 → length text ≤ 2 * length entry → Decoding text entry (length text / 2) 0 entry
-decoding_none text entry even room =
-    record { even = even; within = omega arith; room = room; size = refl; front = []; is = prefixed_nil (unhex text); written = nothing entry }
-
 module _ {text entry out : Bytes} {count n : ℕ} (d : Decoding text entry count n out) where
-  pub decoding_more : {p : Pair} {b : ℕ} → n < count → p ≡ pair_of (hex_value (get_or text (n * 2) 0)) (hex_value (get_or text (n * 2 + 1) 0)) → p ≡ Byte b → Decoding text entry count (n + 1) (set out n b)
+  pub decoding_more : {p : Option ℕ} {b : ℕ} → n < count → p ≡ pair_of (hex_value (get_or text (n * 2) 0)) (hex_value (get_or text (n * 2 + 1) 0)) → p ≡ Some b → Decoding text entry count (n + 1) (set out n b)
   decoding_more {p} {b} below is told =
       let more = unhex (drop ((n + 1) * 2) text) in
       let w = stored d.written (omega (arith, d.even, d.within, d.room)) b refl in
@@ -161,49 +113,49 @@ module _ {text entry out : Bytes} {count n : ℕ} (d : Decoding text entry count
         written = w;
       }
 
-  decoding_bad : {p : Pair} → n < count → p ≡ pair_of (hex_value (get_or text (n * 2) 0)) (hex_value (get_or text (n * 2 + 1) 0)) → p ≡ NoByte → unhex text ≡ none
+  decoding_bad : {p : Option ℕ} → n < count → p ≡ pair_of (hex_value (get_or text (n * 2) 0)) (hex_value (get_or text (n * 2 + 1) 0)) → p ≡ None → unhex text ≡ None
   decoding_bad below is told =
       d.is
       ∙ ap (prefixed d.front) (two_digits text n (omega (arith, d.within)) ∙ join_none (hex_value (get_or text (n * 2) 0)) (hex_value (get_or text (n * 2 + 1) 0)) (unhex (drop ((n + 1) * 2) text)) (sym is ∙ told))
 
-  decoding_whole : count ≤ n → unhex text ≡ some d.front
+  decoding_whole : count ≤ n → unhex text ≡ Some d.front
   unfolding unhex
-  decoding_whole all = d.is ∙ ap (λ (l : Bytes). prefixed d.front (unhex l)) (drop_of_length-le text {i = n * 2} (omega (arith, d.even))) ∙ ap some (append-nil d.front)
+  decoding_whole all = d.is ∙ ap (λ (l : Bytes). prefixed d.front (unhex l)) (drop_of_length-le text {i = n * 2} (omega (arith, d.even))) ∙ ap Some (append-nil d.front)
 
-  pub decodes_bad : {p : Pair} → n < count → p ≡ pair_of (hex_value (get_or text (n * 2) 0)) (hex_value (get_or text (n * 2 + 1) 0)) → p ≡ NoByte → Decodes text entry NoBytes out
+  pub decodes_bad : {p : Option ℕ} → n < count → p ≡ pair_of (hex_value (get_or text (n * 2) 0)) (hex_value (get_or text (n * 2 + 1) 0)) → p ≡ None → Decodes text entry None out
   decodes_bad below is told = let e = decoding_bad below is told in record { answer = rw e; front = rw e; size = d.size }
 
-  pub decodes_whole : count ≤ n → Decodes text entry (Count n) out
-  decodes_whole all =
+  pub decodes_whole : n ≤ count → count ≤ n → Decodes text entry (Some count) out
+  decodes_whole most all =
       let e = decoding_whole all in
       let w = d.written in
       record {
-        answer = rw e (ap Count w.count);
+        answer = rw e (ap Some (omega arith ∙ w.count));
         front = rw e (ap (take (length d.front)) w.buffer ∙ take_at d.front (drop n entry) (length d.front) refl);
         size = d.size;
       }
 
 -- the digits of bytes are twice as many
-joined_length : (o p : Option ℕ) (r : Option Bytes) {t : Bytes} → join_hex o p r ≡ some t → (n : ℕ) → ((u : Bytes) → r ≡ some u → n ≡ length u * 2) → suc (suc n) ≡ length t * 2
+joined_length : (o p : Option ℕ) (r : Option Bytes) {t : Bytes} → join_hex o p r ≡ Some t → (n : ℕ) → ((u : Bytes) → r ≡ Some u → n ≡ length u * 2) → suc (suc n) ≡ length t * 2
 unfolding join_hex
-joined_length none p r e n k = let z : ◌≡◌ {A = ℕ} 0 1 = cc in absurd (omega arith)
-joined_length (some h) none r e n k = let z : ◌≡◌ {A = ℕ} 0 1 = cc in absurd (omega arith)
-joined_length (some h) (some l) none e n k = let z : ◌≡◌ {A = ℕ} 0 1 = cc in absurd (omega arith)
-joined_length (some h) (some l) (some s) {t} e n k = let f : (h * 16 + l) ∷ s ≡ t = cc in omega (arith, k s refl, ap length f)
+joined_length None p r e n k = let z : ◌≡◌ {A = ℕ} 0 1 = cc in absurd (omega arith)
+joined_length (Some h) None r e n k = let z : ◌≡◌ {A = ℕ} 0 1 = cc in absurd (omega arith)
+joined_length (Some h) (Some l) None e n k = let z : ◌≡◌ {A = ℕ} 0 1 = cc in absurd (omega arith)
+joined_length (Some h) (Some l) (Some s) {t} e n k = let f : (h * 16 + l) ∷ s ≡ t = cc in omega (arith, k s refl, ap length f)
 
-pub unhex_length : (s : Bytes) {t : Bytes} → unhex s ≡ some t → length s ≡ length t * 2
+pub unhex_length : (s : Bytes) {t : Bytes} → unhex s ≡ Some t → length s ≡ length t * 2
 unfolding unhex
 unhex_length [] {t} e = let f : [] ≡ t = cc in omega (arith, ap length f)
 unhex_length (h ∷ []) e = let z : ◌≡◌ {A = ℕ} 0 1 = cc in absurd (omega arith)
 unhex_length (h ∷ l ∷ s) e = joined_length (hex_value h) (hex_value l) (unhex s) e (length s) (λ u f. unhex_length s f)
 
 -- an odd count of digits
-unhex_odd : (s : Bytes) (k : ℕ) → k * 2 < length s → length s < k * 2 + 2 → unhex s ≡ none
+unhex_odd : (s : Bytes) (k : ℕ) → k * 2 < length s → length s < k * 2 + 2 → unhex s ≡ None
 unhex_odd s k h h2 = go (unhex s) refl
   where
-    go : (o : Option Bytes) → unhex s ≡ o → o ≡ none
-    go none e = refl
-    go (some t) e = absurd (omega (arith, unhex_length s e))
+    go : (o : Option Bytes) → unhex s ≡ o → o ≡ None
+    go None e = refl
+    go (Some t) e = absurd (omega (arith, unhex_length s e))
 
-pub decodes_odd : (text entry : Bytes) → length text / 2 * 2 < length text → Decodes text entry NoBytes entry
+pub decodes_odd : (text entry : Bytes) → length text / 2 * 2 < length text → Decodes text entry None entry
 decodes_odd text entry h = let e = unhex_odd text (length text / 2) h (omega arith) in record { answer = rw e; front = rw e; size = refl }

@@ -5,7 +5,7 @@ use native.Mathlib.Omega.{arith}
 use mathlib.Core.Path.{◌≡◌, refl, sym, ap, ap₂, ◌∙◌}
 use mathlib.Core.Bool.{Bool, true, false, cond}
 use mathlib.Core.List.{List, [], ◌∷◌, ◌++◌, map}
-use mathlib.Core.Option.{Option, some}
+use Rattle.std.specs.Prelude.{Option, Some}
 use lib.Dec.{ltb, leb}
 use lib.ListN.{length, get_or, drop}
 use borrow.Author.Tests.{le-leb, lt-leb, eq-eqb, ne_eqb}
@@ -152,7 +152,7 @@ mark_apart NoMark (Number n) e = let z : 0 ≡ length (bytes "!" ++ digits n) = 
 mark_apart NoMark Dropped e = let z : 0 ≡ length (bytes "!") = ap length e in absurd (omega arith)
 mark_apart (Number n) NoMark e = let z : length (bytes "!" ++ digits n) ≡ 0 = ap length e in absurd (omega arith)
 mark_apart (Number n) (Number k) e =
-    let value : some n ≡ some k = sym (value_back n) ∙ ap value_of (ap (drop 1) e) ∙ value_back k in
+    let value : Some n ≡ Some k = sym (value_back n) ∙ ap value_of (ap (drop 1) e) ∙ value_back k in
     let same : n ≡ k = cc in
     ap Number same
 mark_apart (Number n) Dropped e = let z : length (digits n) ≡ 0 = ap length (ap (drop 1) e) in absurd (omega (arith, (reads n).some_byte))

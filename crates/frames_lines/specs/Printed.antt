@@ -1,6 +1,6 @@
 -- What a line that the program `frames` prints tells (document 02, R-11).
 use Rattle.std.specs.Prelude.{ℕ, zero, suc, true, false, cond, List, [], ◌++◌, map, ◌≡◌, eqb, length, get_or, drop}
-use Rattle.std.proofs.Math.Option.{some}
+use Rattle.std.specs.Prelude.{Some}
 use Rattle.base_key.specs.Bytes.{Bytes}
 use Rattle.resp_spec.specs.Request.{read_request}
 use Rattle.resp_spec.specs.Reply.{Reply, encode}
@@ -43,7 +43,7 @@ pub record AnswersPrinted (line : Bytes) (c : Console) (g : Given) : Type 0 wher
 
 -- for every frame
 abbrev pub FramePrinted : Type 0
-FramePrinted = (line : Bytes) (c : Console) (g : Given) → given line ≡ some g → AnswersPrinted line c g
+FramePrinted = (line : Bytes) (c : Console) (g : Given) → given line ≡ Some g → AnswersPrinted line c g
 
 -- and it tells its session, the bytes of each reply, and its mark
 abbrev pub LineTells : Type 0

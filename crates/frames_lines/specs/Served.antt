@@ -1,6 +1,6 @@
 -- The requests of a frame on lent state: what the frame's calls leave, one after another.
 use Rattle.std.specs.Prelude.{ℕ, zero, suc, Bool, true, false, cond, List, [], ◌∷◌, ◌++◌, ◌≡◌, leb, length}
-use Rattle.std.proofs.Math.Option.{Option}
+use Rattle.std.specs.Prelude.{Option}
 use Rattle.base_key.specs.Bytes.{Bytes}
 use Rattle.call_spec.specs.Serve.{State}
 use Rattle.call_spec.specs.Calls.{Lent, valid, store_of, session_of}

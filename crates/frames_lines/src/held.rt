@@ -3,15 +3,13 @@ ghost use Rattle.std.specs.Prelude.{◌≡◌, ◌<◌, length};
 ghost use Rattle.frames_lines.specs.Rest.{held_of};
 ghost use Rattle.frames_lines.specs.Held.{Memory, count_at, slot_of, FrameRead, RestAt, RestKept};
 
-use crate::line::{Given, Head};
-use crate::rest::Kept;
 use crate::{line, rest};
 
 // Whose bytes the frame of a session is read behind: sessions above 15 hold nothing.
 pub fn slot_of(session: usize) -> usize
     ensures { result ≡ slot_of session }
 {
-    if session < 15 { session } else { 15 }
+    session.min(15)
 }
 
 // How many bytes a session holds.
@@ -19,20 +17,16 @@ pub fn count_at(counts: &[u64], slot: usize) -> usize
     requires { slot < length counts.now }
     ensures { result ≡ count_at counts.now slot }
 {
-    let count = counts[slot];
-    if count < 4096 {
-        return count as usize;
-    }
-    4096
+    counts[slot].min(4096) as usize
 }
 
 // Reads a line: its bytes are written behind those that its session holds.
-pub fn read_frame(line: &[u8], counts: &[u64], held: &mut [u8]) -> Given
+pub fn read_frame(line: &[u8], counts: &[u64], held: &mut [u8]) -> Option<(usize, usize)>
     requires { Memory counts.now held.old }
     ensures { FrameRead line.now counts.now held.old result held.new }
 {
-    let Head::Session(session) = line::read_head(line) else {
-        return Given::Malformed;
+    let Some(session) = line::read_head(line) else {
+        return None;
     };
     let slot = slot_of(session);
     let at = count_at(counts, slot);
@@ -42,17 +36,23 @@ pub fn read_frame(line: &[u8], counts: &[u64], held: &mut [u8]) -> Given
 }
 
 // How many bytes a session holds after its rest was kept or dropped.
-fn count_after(kept: Kept) -> u64
+fn count_after(kept: Option<usize>) -> u64
     ensures { result ≡ held_of kept }
 {
     match kept {
-        Kept::Bytes(count) => count as u64,
-        Kept::TooLong => 0,
+        Some(count) => count as u64,
+        None => 0,
     }
 }
 
 // Keeps the bytes from `from` to `to` of a session's part as its rest; one above 4,096 bytes is dropped.
-pub fn keep(counts: &mut [u64], held: &mut [u8], session: usize, from: usize, to: usize) -> Kept
+pub fn keep(
+    counts: &mut [u64],
+    held: &mut [u8],
+    session: usize,
+    from: usize,
+    to: usize,
+) -> Option<usize>
     requires memory { Memory counts.old held.old }
     requires rest_at { RestAt session from to }
     ensures { RestKept session from to counts.old held.old result counts.new held.new }

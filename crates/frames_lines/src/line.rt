@@ -3,130 +3,84 @@ ghost use Rattle.std.specs.Prelude.{◌≡◌, ◌*◌, ◌≤◌, length};
 ghost use Rattle.call_spec.specs.Frames.{hex_value};
 ghost use Rattle.frames_lines.specs.Line.{or_sixteen, pair_of, Decodes, head_of, Room, LineRead};
 
-// A line of the form, with its session and the count of its bytes; or a line of another form.
-#[derive(Clone, Copy)]
-pub enum Given {
-    Frame(usize, usize),
-    Malformed,
-}
-
-// A byte from two digits.
-#[derive(Clone, Copy)]
-pub enum Pair {
-    Byte(u8),
-    NoByte,
-}
-
-// The count of the bytes of a hexadecimal text.
-#[derive(Clone, Copy)]
-pub enum Decoded {
-    Bytes(usize),
-    NoBytes,
-}
-
-// The session of a line whose first three bytes and whose length have the form.
-#[derive(Clone, Copy)]
-pub enum Head {
-    Session(usize),
-    NoSession,
-}
-
 // The value of a lower-case hexadecimal digit; 16 for any other byte.
+#[tactic(auto, unfolding(call_spec::specs::Frames::hex_value))]
 fn hex_value(byte: u8) -> u8
     ensures { result ≡ or_sixteen (hex_value byte) }
 {
-    if byte < 48 {
-        return 16;
+    match byte {
+        b'0'..=b'9' => byte - b'0',
+        b'a'..=b'f' => byte - b'a' + 10,
+        _ => 16,
     }
-    if byte <= 57 {
-        return byte - 48;
-    }
-    if byte < 97 {
-        return 16;
-    }
-    if byte <= 102 {
-        return byte - 87;
-    }
-    16
 }
 
 // The byte of two digits.
-fn pair_byte(high: u8, low: u8) -> Pair
+#[tactic(auto, unfolding(crate::specs::Line::pair_of))]
+fn pair_byte(high: u8, low: u8) -> Option<u8>
     ensures { result ≡ pair_of (hex_value high) (hex_value low) }
 {
     let h = hex_value(high);
     let l = hex_value(low);
-    if 16 <= h {
-        return Pair::NoByte;
+    if h < 16 && l < 16 {
+        Some(h * 16 + l)
+    } else {
+        None
     }
-    if 16 <= l {
-        return Pair::NoByte;
-    }
-    Pair::Byte(h * 16 + l)
 }
 
 // Writes the bytes of a hexadecimal text at the front of `out`.
-fn decode(text: &[u8], out: &mut [u8]) -> Decoded
+fn decode(text: &[u8], out: &mut [u8]) -> Option<usize>
     requires { length text.now ≤ 2 * length out.old }
     ensures { Decodes text.now out.old result out.new }
 {
     let count = text.len() / 2;
     if count * 2 < text.len() {
-        return Decoded::NoBytes;
+        return None;
     }
-    let mut n = 0;
-    while n < count {
+    for n in 0..count {
         match pair_byte(text[n * 2], text[n * 2 + 1]) {
-            Pair::Byte(b) => {
-                out[n] = b;
-                n += 1;
-            }
-            Pair::NoByte => return Decoded::NoBytes,
+            Some(b) => out[n] = b,
+            None => return None,
         }
     }
-    Decoded::Bytes(n)
+    Some(count)
 }
 
 // The session of a line of 2 to 8,192 digits behind two decimal digits and a space.
-pub fn read_head(line: &[u8]) -> Head
+pub fn read_head(line: &[u8]) -> Option<usize>
     ensures { result ≡ head_of line.now }
 {
     if line.len() < 5 {
-        return Head::NoSession;
+        return None;
     }
     if 8195 < line.len() {
-        return Head::NoSession;
+        return None;
     }
     let tens = line[0];
     let ones = line[1];
-    if tens < 48 {
-        return Head::NoSession;
+    if !tens.is_ascii_digit() {
+        return None;
     }
-    if 57 < tens {
-        return Head::NoSession;
+    if !ones.is_ascii_digit() {
+        return None;
     }
-    if ones < 48 {
-        return Head::NoSession;
+    if line[2] != b' ' {
+        return None;
     }
-    if 57 < ones {
-        return Head::NoSession;
-    }
-    if line[2] == 32 {
-        return Head::Session((tens - 48) as usize * 10 + (ones - 48) as usize);
-    }
-    Head::NoSession
+    Some((tens - b'0') as usize * 10 + (ones - b'0') as usize)
 }
 
 // Reads a line: its bytes are written behind the `at` bytes that the session holds.
-pub fn read_line(line: &[u8], held: &mut [u8], at: usize) -> Given
+pub fn read_line(line: &[u8], held: &mut [u8], at: usize) -> Option<(usize, usize)>
     requires { Room at held.old }
     ensures { LineRead line.now at held.old result held.new }
 {
-    let Head::Session(session) = read_head(line) else {
-        return Given::Malformed;
+    let Some(session) = read_head(line) else {
+        return None;
     };
-    let Decoded::Bytes(count) = decode(&line[3..], &mut held[at..]) else {
-        return Given::Malformed;
+    let Some(count) = decode(&line[3..], &mut held[at..]) else {
+        return None;
     };
-    Given::Frame(session, count)
+    Some((session, count))
 }

@@ -5,7 +5,6 @@ ghost use Rattle.call_spec.specs.Frames.{hex, hex_digit};
 ghost use Rattle.frames_lines.specs.Pieces.{head_text, number_text, mark_or_dash, end_text, malformed_text};
 
 use base_decimal::digits;
-use base_writing::Put;
 
 // What ends the requests of a frame: nothing, a returned number, or a rest above 4,096 bytes.
 #[derive(Clone, Copy)]
@@ -16,49 +15,31 @@ pub enum Mark {
 }
 
 // The digit of a number below 16.
+#[tactic(auto, unfolding(call_spec::specs::Frames::hex_digit))]
 fn hex_digit(n: u8) -> u8
     requires { n < 16 }
     ensures { result ≡ hex_digit n }
 {
-    if n <= 9 {
-        return 48 + n;
-    }
-    87 + n
-}
-
-// The two digits of a byte.
-fn high_digit(byte: u8) -> u8
-    ensures { result ≡ hex_digit (byte / 16) }
-{
-    hex_digit(byte / 16)
-}
-
-fn low_digit(byte: u8) -> u8
-    ensures { result ≡ hex_digit (byte % 16) }
-{
-    hex_digit(byte % 16)
+    if n <= 9 { 48 + n } else { 87 + n }
 }
 
 // Writes the hexadecimal of a reply.
-pub fn put_hex(out: &mut [u8], reply: &[u8]) -> Put
+pub fn put_hex(out: &mut [u8], reply: &[u8]) -> Option<usize>
     ensures { Puts (hex reply.now) out.old result out.new }
 {
     if out.len() / 2 < reply.len() {
         base_writing::clear(out);
-        return Put::Full;
+        return None;
     }
-    let mut i = 0;
-    while i < reply.len() {
-        let byte = reply[i];
-        out[i * 2] = high_digit(byte);
-        out[i * 2 + 1] = low_digit(byte);
-        i += 1;
+    for (i, byte) in reply.iter().enumerate() {
+        out[i * 2] = hex_digit(*byte / 16);
+        out[i * 2 + 1] = hex_digit(*byte % 16);
     }
-    Put::Wrote(i * 2)
+    Some(reply.len() * 2)
 }
 
 // Writes the two digits of a session and a space.
-pub fn put_session(out: &mut [u8], session: usize) -> Put
+pub fn put_session(out: &mut [u8], session: usize) -> Option<usize>
     requires { session < 100 }
     ensures { Puts (head_text session) out.old result out.new }
 {
@@ -68,7 +49,7 @@ pub fn put_session(out: &mut [u8], session: usize) -> Put
 }
 
 // Writes `!` and a number.
-fn put_number(out: &mut [u8], number: u64) -> Put
+fn put_number(out: &mut [u8], number: u64) -> Option<usize>
     ensures { Puts (number_text number) out.old result out.new }
 {
     let mark = base_writing::put_byte(out, b'!');
@@ -76,23 +57,20 @@ fn put_number(out: &mut [u8], number: u64) -> Put
 }
 
 // Writes the mark, or `-` where there is neither a reply nor a mark.
-fn put_mark(out: &mut [u8], replied: bool, mark: Mark) -> Put
+#[tactic(auto, unfolding(crate::specs::Pieces::mark_or_dash))]
+fn put_mark(out: &mut [u8], replied: bool, mark: Mark) -> Option<usize>
     ensures { Puts (mark_or_dash replied mark) out.old result out.new }
 {
     match mark {
-        Mark::NoMark => {
-            if replied {
-                return Put::Wrote(0);
-            }
-            base_writing::put_byte(out, b'-')
-        }
+        Mark::NoMark if replied => Some(0),
+        Mark::NoMark => base_writing::put_byte(out, b'-'),
         Mark::Number(n) => put_number(out, n),
         Mark::Dropped => base_writing::put_byte(out, b'!'),
     }
 }
 
 // Writes the end of an output line behind its replies.
-pub fn put_end(out: &mut [u8], replied: bool, mark: Mark) -> Put
+pub fn put_end(out: &mut [u8], replied: bool, mark: Mark) -> Option<usize>
     ensures { Puts (end_text replied mark) out.old result out.new }
 {
     let put = put_mark(out, replied, mark);
@@ -100,7 +78,8 @@ pub fn put_end(out: &mut [u8], replied: bool, mark: Mark) -> Put
 }
 
 // Writes the whole answer to a line of another form.
-pub fn put_malformed(out: &mut [u8]) -> Put
+#[tactic(auto, unfolding(crate::specs::Pieces::malformed_text))]
+pub fn put_malformed(out: &mut [u8]) -> Option<usize>
     ensures { Puts malformed_text out.old result out.new }
 {
     base_writing::put_bytes(out, b"?\n")

@@ -9,15 +9,7 @@ use resp_spec::Span;
 fn is_quit(control: Control) -> bool
     ensures { result ≡ quits_said control }
 {
-    match control {
-        Control::Multi => false,
-        Control::Exec => false,
-        Control::Discard => false,
-        Control::Watch => false,
-        Control::Unwatch => false,
-        Control::Quit => true,
-        Control::Other => false,
-    }
+    matches!(control, Control::Quit)
 }
 
 // Whether a word names QUIT.

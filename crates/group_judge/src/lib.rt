@@ -11,7 +11,6 @@ ghost use Rattle.group_spec.specs.Settling.{WriteIn, WritesIn, size_at, sizes_fr
 
 use group_spec::{Member, Verdict, conflict, parts, sizes};
 use store_commit::commit;
-use store_memtable::open::Left;
 use store_memtable::{LAST, read};
 
 // Commits write j.
@@ -44,11 +43,8 @@ pub fn commit_writes(
     ensures words_after { words.new ≡ leave_words (commit (list_from (write_at parts.now «data».now) first count) (store_in words.old bytes.old)) words.old }
     ensures bytes_after { bytes.new ≡ leave_bytes (commit (list_from (write_at parts.now «data».now) first count) (store_in words.old bytes.old)) bytes.old }
 {
-    let end = first + count;
-    let mut i = first;
-    while i < end {
-        commit_write(parts, data, i, words, bytes);
-        i += 1;
+    for j in first..first + count {
+        commit_write(parts, data, j, words, bytes);
     }
 }
 
@@ -60,25 +56,16 @@ pub fn has_room(parts: &[u64], first: usize, count: usize, words: &[u64]) -> boo
     requires words_bound_2 { used_word words.now ≤ most_bytes_word words.now }
     ensures { result ≡ room_in words.now count (sizes_from parts.now first count) }
 {
-    if read::word(words, 3) - read::word(words, 0) < count {
-        return false;
-    }
     let free = read::word(words, 4) - read::word(words, 1);
-    let left = sizes::writes_left(parts, first, count, free);
-    match left {
-        Left::Rest(_) => true,
-        Left::Short => false,
-    }
+    count <= read::word(words, 3) - read::word(words, 0)
+        && matches!(sizes::writes_left(parts, first, count, free), Some(_))
 }
 
 // Are there sequences for `count` writes after `last`?
 pub fn has_sequences(last: u64, count: usize) -> bool
     ensures { result ≡ ltb (last + count) (2 ^ 64) }
 {
-    if 18446744073709551615 - last < read::wide(count) {
-        return false;
-    }
-    true
+    last.checked_add(read::wide(count)).is_some()
 }
 
 // Settles a taken member; `began` is the last sequence when the group began. Conflict comes before 6 and 7.
@@ -122,28 +109,6 @@ pub fn verdict_byte(verdict: Verdict) -> u8
     }
 }
 
-// Settles a member if it is taken.
-fn settle_if(
-    taken: bool,
-    member: Member,
-    began: u64,
-    parts: &[u64],
-    data: &[u8],
-    words: &mut [u64],
-    bytes: &mut [u8],
-) -> Verdict
-    requires member_value { member_inside parts.now «data».now member ≡ true }
-    requires valid { Valid words.old bytes.old }
-    ensures value { result ≡ step_verdict taken began (store_in words.old bytes.old) (pending_of parts.now «data».now member) }
-    ensures words_after { words.new ≡ leave_words (store_after result (pending_of parts.now «data».now member).writes (store_in words.old bytes.old)) words.old }
-    ensures bytes_after { bytes.new ≡ leave_bytes (store_after result (pending_of parts.now «data».now member).writes (store_in words.old bytes.old)) bytes.old }
-{
-    if taken {
-        return settle_member(member, began, parts, data, words, bytes);
-    }
-    Verdict::NotTaken
-}
-
 // Settles member i of a group, or leaves it untaken, and writes its verdict byte. Returns the room after it.
 pub fn settle_next(
     member: Member,
@@ -165,8 +130,11 @@ pub fn settle_next(
     ensures bytes_after { bytes.new ≡ leave_bytes (store_after (step_verdict (taken_at i result) began (store_in words.old bytes.old) (pending_of parts.now «data».now member)) (pending_of parts.now «data».now member).writes (store_in words.old bytes.old)) bytes.old }
 {
     let after = sizes::room_after(parts, member.first_write, member.writes, i, room);
-    let taken = sizes::taken_at(i, after);
-    let verdict = settle_if(taken, member, began, parts, data, words, bytes);
+    let verdict = if sizes::taken_at(i, after) {
+        settle_member(member, began, parts, data, words, bytes)
+    } else {
+        Verdict::NotTaken
+    };
     verdicts[i] = verdict_byte(verdict);
     after
 }

@@ -13,7 +13,6 @@ ghost use Rattle.group_spec.specs.Settling.{WriteIn, WritesIn, size_at, sizes_fr
 use group_spec::{parts, sizes};
 use store_commit::merge;
 use store_memtable::merge::Front;
-use store_memtable::open::Left;
 use store_memtable::{LAST, read};
 
 // The key and value bytes of `count` writes from write `first` on, for which the store has room.
@@ -24,10 +23,9 @@ fn writes_size(parts: &[u64], first: usize, count: usize, words: &[u64]) -> usiz
     ensures { result ≡ sizes_from parts.now first count }
 {
     let free = read::word(words, 4) - read::word(words, 1);
-    let left = sizes::writes_left(parts, first, count, free);
-    match left {
-        Left::Rest(n) => free - n,
-        Left::Short => 0,
+    match sizes::writes_left(parts, first, count, free) {
+        Some(rest) => free - rest,
+        None => 0,
     }
 }
 
@@ -78,19 +76,17 @@ fn merge_writes(
     ensures bytes_after { bytes.new ≡ leave_bytes (commit (list_from (write_at parts.now «data».now) first count) (store_in words.old bytes.old)) bytes.old }
 {
     let mut left = front;
-    let mut j = count;
-    while 0 < j {
+    for j in (0..count).rev() {
         left = merge_write(
             parts,
             data,
-            first + (j - 1),
-            j,
-            top - read::wide(count - j),
+            first + j,
+            j + 1,
+            top - read::wide(count - (j + 1)),
             left,
             words,
             bytes,
         );
-        j -= 1;
     }
 }
 
@@ -114,11 +110,7 @@ pub fn commit_ascending(
     let used = read::word(words, 1);
     let top = words[LAST] + read::wide(count);
     let gap = writes_size(parts, first, count, words);
-    let front = Front {
-        rows: rows,
-        used: used,
-        gap: gap,
-    };
+    let front = Front { rows, used, gap };
     merge_writes(parts, data, first, count, top, front, words, bytes);
     merge::renew_header(words, rows + count, used + gap, top);
 }

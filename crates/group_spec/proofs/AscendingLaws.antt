@@ -6,31 +6,17 @@ use mathlib.Core.List.{List, [], ◌∷◌, ◌++◌}
 use lib.ListN.{length, set}
 use Rattle.base_key.specs.Bytes.{Bytes}
 use Rattle.store_memtable.specs.declared.merge.Front.{Front}
-use Rattle.store_memtable.specs.declared.open.Left.{Left}
-use Rattle.store_memtable.specs.declared.open.Left.TheVariants.{Rest, Short}
 use Rattle.store_memtable.specs.Table.{Write, Ascending}
 use Rattle.store_memtable.specs.Versions.{commit}
-use Rattle.store_memtable.specs.Layout.{count_word, used_word, last_word, most_bytes_word, store_in, leave_words, leave_bytes}
-use Rattle.store_memtable.specs.Rows.{Valid, bytes_left}
+use Rattle.store_memtable.specs.Layout.{count_word, used_word, last_word, store_in, leave_words, leave_bytes}
+use Rattle.store_memtable.specs.Rows.{Valid}
 use Rattle.store_memtable.specs.Merging.{Mergeable, front_after, words_after, bytes_after, leave_rows}
 use Rattle.store_memtable.proofs.MergeLaws.{ascending_last, ascending_front}
 use Rattle.store_memtable.proofs.MergePass.{Pass, pass_none, pass_mergeable, pass_more, pass_rows, pass_bytes, rows_headed}
 use Rattle.group_spec.specs.Members.{list_from, write_at, write_inside}
 use Rattle.group_spec.specs.Settling.{WriteIn, WritesIn, size_at, sizes_from, RoomFor}
 use Rattle.group_spec.proofs.Walks.{list_long, join_list, all_at}
-use Rattle.group_spec.proofs.SizeLaws.{write_in, write_in_size, writes_size_lem, rest_within, short_above}
-
--- the size of the writes, from what they leave of the free bytes
-module _ (w ws : List ℕ) (first count : ℕ) {a u : ℕ} {o : Left} (a-is : a ≡ most_bytes_word ws) (u-is : u ≡ used_word ws) (o_is : o ≡ bytes_left (a - u) (sizes_from w first count))
-    (room : used_word ws + sizes_from w first count ≤ most_bytes_word ws) where
-  pub size_rest_in : {n : ℕ} → o ≡ Rest n → n ≤ a - u
-  size_rest_in {n} e = let r = rest_within (a - u) (sizes_from w first count) n (sym o_is ∙ e) in omega (arith, r.0, r.1)
-
-  pub size_rest : {n : ℕ} → o ≡ Rest n → a - u - n ≡ sizes_from w first count
-  size_rest {n} e = let r = rest_within (a - u) (sizes_from w first count) n (sym o_is ∙ e) in omega (arith, r.0, r.1)
-
-  pub size_short : o ≡ Short → 0 ≡ sizes_from w first count
-  size_short e = absurd (omega (arith, short_above (a - u) (sizes_from w first count) (sym o_is ∙ e)))
+use Rattle.group_spec.proofs.SizeLaws.{write_in, write_in_size, writes_size_lem}
 
 -- THE TURNS: the first j writes are left
 pub record Turning (w : List ℕ) (d : Bytes) (first count : ℕ) (ws₀ bs₀ ws bs : List ℕ) (f : Front) (j : ℕ) : Type 0 where
@@ -81,23 +67,23 @@ module _ {w : List ℕ} {d : Bytes} {first count : ℕ} {ws₀ bs₀ ws bs : Lis
     next_rising : Ascending (left ++ (wr ∷ []))
     next_rising = subst (λ (l : List Write). Ascending l) left_is t.rising
 
-    left_long : j ≡ suc (length left)
-    left_long = omega (arith, list_long (write_at w d) first (j - 1))
+    left_long : {by : ℕ} → by ≡ j → by ≡ suc (length left)
+    left_long e = omega (arith, list_long (write_at w d) first (j - 1))
 
     pub turn_in : WritesIn w d first count → WriteIn w d (first + (j - 1))
     turn_in i = write_in w d (first + (j - 1)) (omega (arith, i.rows_in, t.within))
         (all_at (write_inside w d) first count (first + (j - 1)) i.parts_in (omega arith) (omega (arith, t.within)))
 
-    pub turn_mergeable : WritesIn w d first count → Mergeable ws bs j (size_at w (first + (j - 1))) f
-    turn_mergeable i = pass_mergeable left wr next left_long (sym (write_in_size w d (first + (j - 1)) (turn_in i)))
+    pub turn_mergeable : {by : ℕ} → WritesIn w d first count → by ≡ j → Mergeable ws bs by (size_at w (first + (j - 1))) f
+    turn_mergeable i e = pass_mergeable left wr next (left_long e) (sym (write_in_size w d (first + (j - 1)) (turn_in i)))
 
-    pub turning_more : {top x : ℕ} {r : Front} {ws' bs' : List ℕ} → top ≡ last_word ws₀ + count → x ≡ count - j
-        → r ≡ front_after (write_at w d (first + (j - 1))) (top - x) f ws bs → ws' ≡ words_after (write_at w d (first + (j - 1))) (top - x) j f r ws
+    pub turning_more : {by top x : ℕ} {r : Front} {ws' bs' : List ℕ} → by ≡ j → top ≡ last_word ws₀ + count → x ≡ count - by
+        → r ≡ front_after (write_at w d (first + (j - 1))) (top - x) f ws bs → ws' ≡ words_after (write_at w d (first + (j - 1))) (top - x) by f r ws
         → bs' ≡ bytes_after (write_at w d (first + (j - 1))) f r bs → length ws' ≡ length ws → length bs' ≡ length bs
         → Turning w d first count ws₀ bs₀ ws' bs' r (j - 1)
-    turning_more top-is x-is r-is w-is b-is lw lb = record {
+    turning_more by-is top-is x-is r-is w-is b-is lw lb = record {
       within = omega (arith, t.within);
-      pass = pass_more left wr next (ascending_last left wr next_rising) (omega (arith, top-is, x-is, t.within)) left_long r-is w-is b-is lw lb;
+      pass = pass_more left wr next (ascending_last left wr next_rising) (omega (arith, by-is, top-is, x-is, t.within)) (left_long by-is) r-is w-is b-is lw lb;
       rising = ascending_front left wr next_rising;
     }
 

@@ -2,26 +2,21 @@
 use Prim.Native.Nat.{ℕ, suc, ◌+◌, ◌-◌, ◌*◌, ◌^◌, ◌≤◌, ◌<◌}
 use native.Mathlib.Omega.{arith}
 use mathlib.Core.Path.{◌≡◌, refl, sym, ap, ◌∙◌, subst}
-use mathlib.Core.Bool.{true, false}
+use mathlib.Core.Bool.{true}
 use mathlib.Core.List.{List}
-use lib.Dec.{ltb}
 use lib.ListN.{length}
-use borrow.Author.Tests.{lt-ltb, le-ltb}
 use Rattle.base_key.specs.Bytes.{Bytes}
-use Rattle.store_memtable.specs.declared.open.Left.{Left}
-use Rattle.store_memtable.specs.declared.open.Left.TheVariants.{Rest, Short}
 use Rattle.store_memtable.specs.Table.{Write}
 use Rattle.store_memtable.specs.Versions.{Version, Store, commit_one, commit}
 use Rattle.store_memtable.specs.Layout.{count_word, used_word, last_word, most_versions_word, most_bytes_word, store_in, leave_words, leave_bytes}
-use Rattle.store_memtable.specs.Rows.{Valid, room_in, bytes_left}
+use Rattle.store_memtable.specs.Rows.{Valid}
 use Rattle.store_memtable.proofs.VersionLaws.{length_insert, size_insert}
 use Rattle.store_memtable.proofs.LayoutLaws.{words_left_long, bytes_left_long}
-use Rattle.store_memtable.proofs.Opening.{room_bytes, room_good}
 use Rattle.store_memtable.proofs.Sequence.{Holds, holds_first, holds_valid, holds_store, holds_count, holds_used, holds_last, holds_most_versions, holds_most_bytes, holds_one}
 use Rattle.group_spec.specs.Members.{list_from, all_from, write_at, write_inside}
 use Rattle.group_spec.specs.Settling.{WriteIn, WritesIn, size_at, sizes_from, RoomFor}
 use Rattle.group_spec.proofs.Walks.{list_next, list_end, all_here, all_later}
-use Rattle.group_spec.proofs.SizeLaws.{write_in, write_in_size, sizes_next, rest_within, short_above}
+use Rattle.group_spec.proofs.SizeLaws.{write_in, write_in_size, sizes_next}
 
 -- the writes before place i are committed: the words and bytes are a store over those of the start, with room for the writes behind
 pub record Committing (w : List ℕ) (d : Bytes) (first count e : ℕ) (ws₀ bs₀ ws bs : List ℕ) (i : ℕ) : Type 0 where
@@ -110,20 +105,3 @@ module _ {w : List ℕ} {d : Bytes} {first count e : ℕ} {ws₀ bs₀ ws bs : L
           same_words = ap length h'.words_are ∙ words_left_long (commit_one wr st) ws₀ bs₀ h'.fits;
           same_bytes_lem = ap length h'.bytes_are ∙ bytes_left_long (commit_one wr st) ws₀ bs₀ h'.fits;
         }
-
--- THE ROOM, from the words c, u, mv, mb that were read and from what the writes leave of the free bytes
-module _ (ws : List ℕ) (n m : ℕ) {c mv : ℕ} (c-is : c ≡ count_word ws) (mv-is : mv ≡ most_versions_word ws) (c-in : count_word ws ≤ most_versions_word ws) where
-  module _ {u mb : ℕ} {o : Left} (h : n ≤ mv - c) (u-is : u ≡ used_word ws) (mb-is : mb ≡ most_bytes_word ws) (u-in : used_word ws ≤ most_bytes_word ws) (o_is : o ≡ bytes_left (mb - u) m) where
-    pub room_left : {k : ℕ} → o ≡ Rest k → true ≡ room_in ws n m
-    room_left {k} e = room_good ws n m c-is mv-is c-in u-is mb-is u-in h (rest_within (mb - u) m k (sym o_is ∙ e)).0
-
-    pub room_bytes_out : o ≡ Short → false ≡ room_in ws n m
-    room_bytes_out e = room_bytes ws n m c-is mv-is c-in u-is mb-is u-in h (short_above (mb - u) m (sym o_is ∙ e))
-
--- THE SEQUENCES
-module _ (last n : ℕ) {x : ℕ} (x-is : x ≡ n) where
-  pub sequences_out : 18446744073709551615 - last < x → false ≡ ltb (last + n) (2 ^ 64)
-  sequences_out h = sym (le-ltb (last + n) (2 ^ 64) (omega arith))
-
-  pub sequences_left : last < 2 ^ 64 → x ≤ 18446744073709551615 - last → true ≡ ltb (last + n) (2 ^ 64)
-  sequences_left b h = sym (lt-ltb (last + n) (2 ^ 64) (omega arith))

@@ -1,10 +1,10 @@
 -- Laws of the search for a key that has moved. Assumes nothing.
-use Prim.Native.Nat.{ℕ, zero, suc, ◌+◌, ◌-◌, ◌*◌, ◌≤◌, ◌<◌}
+use Prim.Native.Nat.{ℕ, zero, suc, ◌+◌, ◌*◌, ◌≤◌, ◌<◌}
 use native.Mathlib.Omega.{arith}
 use mathlib.Core.Path.{◌≡◌, refl, sym, ap, ◌∙◌}
 use mathlib.Core.Bool.{Bool, true, false, ◌||◌}
 use mathlib.Core.List.{List, ◌∷◌, ◌++◌}
-use borrow.Author.Tests.{leb-true, lt-ltb, le-ltb, eq-eqb, ne_eqb}
+use borrow.Author.Tests.{leb-true, eq-eqb, ne_eqb}
 use Rattle.base_key.specs.Bytes.{Bytes}
 use Rattle.base_key.specs.Keys.{Key}
 use Rattle.base_key.proofs.Bytes.{and_left}
@@ -12,63 +12,22 @@ use Rattle.store_memtable.specs.Table.{keys_of}
 use Rattle.store_memtable.specs.Versions.{Version, moved}
 use Rattle.group_spec.specs.declared.Member.{Member}
 use Rattle.group_spec.specs.Group.{any_key, held_keys}
-use Rattle.group_spec.specs.Members.{list_from, all_from, write_at, check_at, write_inside, check_inside, pending_of}
+use Rattle.group_spec.specs.Members.{list_from, write_at, check_at, write_inside, check_inside, pending_of}
 use Rattle.group_spec.specs.Settling.{write_key, check_key, KeyIn, WritesIn, ChecksIn, lower, moved_since}
 use Rattle.group_spec.proofs.KeyLists.{any_append}
-use Rattle.group_spec.proofs.Walks.{list_next, list_end, all_here, all_later}
+use Rattle.group_spec.proofs.Walks.{all_at}
 
-module _ (a b : ℕ) where
-  pub lower_first : a < b → a ≡ lower a b
-  lower_first h = rw (lt-ltb a b h)
-
-  pub lower_second : b ≤ a → b ≡ lower a b
-  lower_second h = rw (le-ltb a b h)
-
--- a moved key, by a part that is it
-pub moved_key : (limit : ℕ) (vs : List Version) {k key : Key} {r : Bool} → k ≡ key → r ≡ moved limit vs k → r ≡ moved limit vs key
-moved_key limit vs e is = is ∙ ap (moved limit vs) e
-
--- f holds of no key before place i; the test t holds of the places behind
-pub record Seeking (f : Key → Bool) (g : ℕ → Key) (t : ℕ → Bool) (first count e i : ℕ) : Type 0 where
-  pub within : i ≤ e
-  pub all_in : all_from t i (e - i) ≡ true
-  pub rest : any_key f (list_from g first count) ≡ any_key f (list_from g i (e - i))
-
-pub seeking_none : (f : Key → Bool) (g : ℕ → Key) (t : ℕ → Bool) (first count : ℕ) → all_from t first count ≡ true → Seeking f g t first count (first + count) first
-seeking_none f g t first count a =
-    let n : count ≡ first + count - first = omega arith in
-    record { within = omega arith; all_in = sym (ap (all_from t first) n) ∙ a; rest = ap (λ (k : ℕ). any_key f (list_from g first k)) n }
-
-module _ {f : Key → Bool} {g : ℕ → Key} {t : ℕ → Bool} {first count e i : ℕ} (p : Seeking f g t first count e i) where
-  module _ {r : Bool} (h : i < e) (is : r ≡ f (g i)) where
-    next : any_key f (list_from g first count) ≡ (r || any_key f (list_from g (i + 1) (e - (i + 1))))
-    unfolding any_key
-    next = p.rest ∙ ap (any_key f) (list_next g h) ∙ ap (λ (b : Bool). b || any_key f (list_from g (i + 1) (e - (i + 1)))) (sym is)
-
-    pub seeking_more : r ≡ false → Seeking f g t first count e (i + 1)
-    seeking_more calm = record {
-      within = omega arith;
-      all_in = all_later t h p.all_in;
-      rest = next ∙ ap (λ (b : Bool). b || any_key f (list_from g (i + 1) (e - (i + 1)))) calm;
-    }
-
-    pub seeking_found : r ≡ true → true ≡ any_key f (list_from g first count)
-    seeking_found hit = sym (next ∙ ap (λ (b : Bool). b || any_key f (list_from g (i + 1) (e - (i + 1)))) hit)
-
-  pub seeking_ended : e ≤ i → false ≡ any_key f (list_from g first count)
-  unfolding any_key
-  seeking_ended h = sym (p.rest ∙ ap (any_key f) (list_end g h))
-
-module _ (w : List ℕ) (d : Bytes) {f : Key → Bool} {g : ℕ → Key} {first count i : ℕ} where
-  pub write_key_in : WritesIn w d first count → Seeking f g (write_inside w d) first count (first + count) i → i < first + count → KeyIn w d (4 * i)
+-- the keys of a member lie in the data
+module _ (w : List ℕ) (d : Bytes) {first count i : ℕ} where
+  pub write_key_in : WritesIn w d first count → first ≤ i → i < first + count → KeyIn w d (4 * i)
   unfolding write_inside
-  write_key_in ok p h =
-      record { words_in = omega (arith, ok.rows_in); key_in = leb-true _ _ (and_left _ _ (all_here (write_inside w d) h p.all_in)) }
+  write_key_in ok l h =
+      record { words_in = omega (arith, ok.rows_in); key_in = leb-true _ _ (and_left _ _ (all_at (write_inside w d) first count i ok.parts_in l h)) }
 
-  pub check_key_in : ChecksIn w d first count → Seeking f g (check_inside w d) first count (first + count) i → i < first + count → KeyIn w d (2 * i)
+  pub check_key_in : ChecksIn w d first count → first ≤ i → i < first + count → KeyIn w d (2 * i)
   unfolding check_inside
-  check_key_in ok p h =
-      record { words_in = omega (arith, ok.rows_in); key_in = leb-true _ _ (all_here (check_inside w d) h p.all_in) }
+  check_key_in ok l h =
+      record { words_in = omega (arith, ok.rows_in); key_in = leb-true _ _ (all_at (check_inside w d) first count i ok.parts_in l h) }
 
 -- the keys of the writes, by places
 pub keys_from : (w : List ℕ) (d : Bytes) (j n : ℕ) → keys_of (list_from (write_at w d) j n) ≡ list_from (write_key w d) j n

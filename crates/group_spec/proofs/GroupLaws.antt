@@ -3,7 +3,7 @@ use Prim.Native.Nat.{ℕ, suc, ◌+◌}
 use native.Mathlib.Omega.{arith}
 use mathlib.Core.List.{List, [], ◌∷◌, ◌++◌, map}
 use mathlib.Core.Bool.{Bool, true, false, cond, ◌||◌}
-use mathlib.Core.Option.{some}
+use Rattle.std.specs.Prelude.{Some}
 use mathlib.Core.Path.{◌≡◌, refl, ap}
 use lib.Dec.{leb}
 use lib.ListN.{length, take}
@@ -50,7 +50,7 @@ plain_verdicts st ws P a r q = go (has_room st ws) (has_sequences st ws)
     go false k = r
 
 -- an accepted member read its written and its checked keys as they are now
-pub accepted_unmoved : (s : ℕ) (st : Store) (m : Pending) → m.read_seq ≡ some s → verdict_alone st m ≡ Accepted
+pub accepted_unmoved : (s : ℕ) (st : Store) (m : Pending) → m.read_seq ≡ Some s → verdict_alone st m ≡ Accepted
     → (k : Key) → among (keys_of m.writes ++ m.also_check) k ≡ true → moved s st.versions k ≡ false
 unfolding verdict_alone
 accepted_unmoved s st m r e k c =

@@ -4,15 +4,15 @@ use native.Mathlib.Omega.{arith}
 use mathlib.Core.List.{List, [], ◌∷◌, ◌++◌}
 use mathlib.Core.Bool.{Bool, true, false, ◌||◌, false≢true, or_assoc, or-true, or-false}
 use mathlib.Core.Path.{◌≡◌, refl, sym, ap, ◌∙◌}
-use Rattle.base_key.specs.declared.Order.{Order}
-use Rattle.base_key.specs.declared.Order.TheVariants.{Less, Equal, Greater}
 use Rattle.base_key.specs.Keys.{Key, compare_keys, same_key}
 use Rattle.base_key.proofs.Keys.{compare_equal, same_refl, same_is}
 use Rattle.base_key.proofs.Bytes.{neither, or_cases, or_twice, or_swap}
 use Rattle.store_memtable.specs.Table.{Value, Write, keys_of, update, last_writes}
 use Rattle.store_memtable.proofs.TableLaws.{step, update_step}
-use mathlib.Core.Option.{Option, some}
+use Rattle.std.specs.Prelude.{Option, Some}
 use Rattle.group_spec.specs.Group.{any_key, among}
+use Rattle.std.specs.declared.cmp.Ordering.TheVariants.{Less, Equal, Greater}
+use Rattle.std.specs.declared.cmp.Ordering.{Ordering}
 
 pub any_append : (f : Key → Bool) (a b : List Key) → any_key f (a ++ b) ≡ (any_key f a || any_key f b)
 unfolding any_key
@@ -65,13 +65,13 @@ any_alike f g [] h = refl
 any_alike f g (k ∷ ks) h = rw (h k, any_alike f g ks h)
 
 -- one write per key: the keys are the same
-any_update : (f : Key → Bool) (k : Key) (v : Option Value) (done : List Write) → any_key f (keys_of (update k (some v) done)) ≡ (f k || any_key f (keys_of done))
+any_update : (f : Key → Bool) (k : Key) (v : Option Value) (done : List Write) → any_key f (keys_of (update k (Some v) done)) ≡ (f k || any_key f (keys_of done))
 unfolding any_key update step
 any_update f k v [] = refl
-any_update f k v (e ∷ done) = rw (update_step k (some v) e done) (go (compare_keys k e.0) refl (any_update f k v done))
+any_update f k v (e ∷ done) = rw (update_step k (Some v) e done) (go (compare_keys k e.0) refl (any_update f k v done))
   where
-    go : (o : Order) → compare_keys k e.0 ≡ o → any_key f (keys_of (update k (some v) done)) ≡ (f k || any_key f (keys_of done))
-        → any_key f (keys_of (step o k (some v) e done)) ≡ (f k || (f e.0 || any_key f (keys_of done)))
+    go : (o : Ordering) → compare_keys k e.0 ≡ o → any_key f (keys_of (update k (Some v) done)) ≡ (f k || any_key f (keys_of done))
+        → any_key f (keys_of (step o k (Some v) e done)) ≡ (f k || (f e.0 || any_key f (keys_of done)))
     go Less p ih = refl
     go Equal p ih = rw (← (compare_equal k e.0 p)) (or_twice (f k) (any_key f (keys_of done)))
     go Greater p ih = rw ih (or_swap (f e.0) (f k) (any_key f (keys_of done)))
@@ -80,7 +80,7 @@ pub any_last : (f : Key → Bool) (done ws : List Write) → any_key f (keys_of 
 unfolding any_key last_writes
 any_last f done [] = refl
 any_last f done (w ∷ ws) =
-    any_last f (update w.0 (some w.1) done) ws
+    any_last f (update w.0 (Some w.1) done) ws
     ∙ ap (λ (b : Bool). any_key f (keys_of ws) || b) (any_update f w.0 w.1 done)
     ∙ or_swap (any_key f (keys_of ws)) (f w.0) (any_key f (keys_of done))
     ∙ sym (or_assoc (f w.0) (any_key f (keys_of ws)) (any_key f (keys_of done)))

@@ -1,13 +1,11 @@
 -- Laws of keys and values as parts of the data. Assumes nothing.
-use Prim.Native.Nat.{ℕ, zero, suc, ◌+◌, ◌-◌, ◌*◌, ◌^◌, ◌≤◌, ◌<◌}
-use native.Mathlib.Nat.{add-sub_cancel_left}
+use Prim.Native.Nat.{ℕ, ◌+◌, ◌-◌, ◌*◌}
 use native.Mathlib.Omega.{arith}
-use mathlib.Core.Path.{◌≡◌, refl, sym, ap, ◌∙◌, subst}
+use mathlib.Core.Path.{◌≡◌, sym, ap, ◌∙◌, subst}
 use mathlib.Core.Bool.{true, not}
-use mathlib.Core.List.{List, []}
+use mathlib.Core.List.{List}
 use lib.Dec.{eqb}
-use lib.ListN.{length, get_or, take, drop}
-use borrow.Author.Tests.{leb-true}
+use lib.ListN.{length, get_or}
 use Rattle.base_key.specs.Bytes.{Bytes, part}
 use Rattle.store_memtable.specs.declared.merge.Front.{Front}
 use Rattle.store_memtable.specs.Table.{Write}
@@ -16,37 +14,12 @@ use Rattle.store_memtable.specs.Layout.{value_of_word, store_in, leave_words, le
 use Rattle.store_memtable.specs.Rows.{RoomForOne, value_if}
 use Rattle.store_memtable.specs.Merging.{Mergeable, front_after, words_after, bytes_after}
 use Rattle.store_memtable.proofs.Committing.{value_if_word}
-use Rattle.group_spec.specs.Members.{value_inside, write_at}
+use Rattle.group_spec.specs.Members.{write_at}
 use Rattle.group_spec.specs.Settling.{key_part, WriteIn, size_at, RoomFor}
 use Rattle.group_spec.proofs.SizeLaws.{write_in_size}
 
-pub key_cut : (w : List ℕ) (d : Bytes) (at : ℕ) {s n : ℕ} → s ≡ get_or w at 0 → n ≡ get_or w (at + 1) 0 → take (s + n - s) (drop s d) ≡ key_part w d at
-key_cut w d at s-is n-is = simp (add-sub_cancel_left, s-is, n-is)
-
-module _ (start word : ℕ) (d : Bytes) where
-  pub value_empty : word ≡ 0 → [] ≡ part start (word - 1) d
-  value_empty e = rw e
-
-  pub value_cut : take (start + (word - 1) - start) (drop start d) ≡ part start (word - 1) d
-  value_cut = simp add-sub_cancel_left
-
-  module _ (n : word ≡ 0 → ⊥) (e : value_inside start word d ≡ true) where
-    pub value_fits : start + (word - 1) ≤ length d
-    unfolding value_inside
-    value_fits = go word n e
-      where
-        go : (x : ℕ) → (x ≡ 0 → ⊥) → value_inside start x d ≡ true → start + (x - 1) ≤ length d
-        go zero n e = absurd (n refl)
-        go (suc x) n e = omega (arith, leb-true (start + x) (length d) e)
-
-    pub value_end : length d < 2 ^ 64 → start + (word - 1) < 2 ^ 64
-    value_end h = omega (arith, value_fits)
-
 -- the write that `commit_one` is given: its key k, its value word x, and bytes v that are its value's
 module _ (w : List ℕ) (d : Bytes) (j : ℕ) {a x : ℕ} (x-is : x ≡ get_or w (4 * j + 3) 0) (a-is : a ≡ get_or w (4 * j + 2) 0) where
-  pub value_given : WriteIn w d j → value_inside a x d ≡ true
-  value_given i = (λ z. value_inside (a-is z) (x-is z) d) ∙ i.value_in
-
   module _ {k : Bytes} (v : Bytes) (k-is : k ≡ key_part w d (4 * j)) (v-is : v ≡ part a (x - 1) d) where
     given_value : value_if (not (eqb x 0)) v ≡ (write_at w d j).1
     unfolding write_at

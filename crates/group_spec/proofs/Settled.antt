@@ -1,32 +1,28 @@
 -- What settling a member leaves: its verdict, and the store with its writes or as it was. Assumes nothing.
 use Prim.Native.Nat.{ℕ, ◌+◌, ◌*◌, ◌^◌, ◌≤◌}
-use native.Mathlib.Omega.{arith}
 use mathlib.Core.Path.{◌≡◌, sym, ap, ◌∙◌}
 use mathlib.Core.Bool.{Bool, true, false, ◌&&◌}
 use mathlib.Core.List.{List}
 use lib.Dec.{leb, ltb}
-use lib.ListN.{length, set}
+use lib.ListN.{length}
 use borrow.Author.Tests.{leb-true, ltb-true}
 use Rattle.base_key.specs.Bytes.{Bytes}
 use Rattle.base_key.proofs.Bytes.{both_parts}
 use Rattle.store_memtable.specs.Table.{Write}
-use Rattle.store_memtable.specs.Versions.{Store, versions_size, commit}
+use Rattle.store_memtable.specs.Versions.{versions_size}
 use Rattle.store_memtable.specs.Layout.{count_word, used_word, last_word, most_versions_word, most_bytes_word, store_in, leave_words, leave_bytes}
 use Rattle.store_memtable.specs.Rows.{Valid, room_in, versions_in}
 use Rattle.store_memtable.proofs.Opening.{room_is}
 use Rattle.store_memtable.proofs.Sequence.{leave_words_same, leave_bytes_same}
 use Rattle.group_spec.specs.declared.Member.{Member}
 use Rattle.group_spec.specs.declared.Verdict.{Verdict}
-use Rattle.group_spec.specs.declared.Verdict.TheVariants.{Accepted, Conflict, NoRoom, NoSequence, NotTaken}
-use Rattle.group_spec.specs.Group.{Pending, verdict_byte, is_accepted, held_keys, has_room, has_sequences, store_after}
-use Rattle.group_spec.specs.Members.{list_from, write_at, member_inside, pending_of}
-use Rattle.group_spec.specs.Settling.{sizes_from, moved_since, judge_since, step_verdict, taken_at, RoomFor}
+use Rattle.group_spec.specs.declared.Verdict.TheVariants.{Accepted, Conflict, NoRoom, NoSequence}
+use Rattle.group_spec.specs.Group.{is_accepted, held_keys, has_room, has_sequences, store_after}
+use Rattle.group_spec.specs.Members.{write_at, member_inside, pending_of}
+use Rattle.group_spec.specs.Settling.{sizes_from, moved_since, judge_since, RoomFor}
 use Rattle.group_spec.proofs.PartTests.{member_writes}
 use Rattle.group_spec.proofs.Walks.{list_long}
 use Rattle.group_spec.proofs.SizeLaws.{writes_size_lem}
-
-pub valid_head : (ws bs : List ℕ) → Valid ws bs → 5 ≤ length ws
-valid_head ws bs v = omega (arith, v.words_hold)
 
 pub member_rows : (w : List ℕ) (d : Bytes) (m : Member) → member_inside w d m ≡ true → 4 * (m.first_write + m.writes) ≤ length w
 member_rows w d m ok = (member_writes w d m ok).rows_in
@@ -49,17 +45,6 @@ module _ (ws bs : List ℕ) (l : List Write) (x : Verdict) (v : Valid ws bs) (re
   stays_bytes = rw refused (sym (leave_bytes_same ws bs v))
 
 module _ (w : List ℕ) (d : Bytes) (m : Member) (ws bs : List ℕ) where
-  -- an accepted one leaves its writes
-  pub accepted_words : {ws' : List ℕ} → ws' ≡ leave_words (commit (list_from (write_at w d) m.first_write m.writes) (store_in ws bs)) ws
-      → ws' ≡ leave_words (store_after Accepted (pending_of w d m).writes (store_in ws bs)) ws
-  unfolding store_after pending_of
-  accepted_words e = e
-
-  pub accepted_bytes : {bs' : List ℕ} → bs' ≡ leave_bytes (commit (list_from (write_at w d) m.first_write m.writes) (store_in ws bs)) bs
-      → bs' ≡ leave_bytes (store_after Accepted (pending_of w d m).writes (store_in ws bs)) bs
-  unfolding store_after pending_of
-  accepted_bytes e = e
-
   -- THE VERDICT, test by test
   module _ (began : ℕ) {c : Bool} (c-is : c ≡ moved_since (pending_of w d m).read_seq began (versions_in ws bs) (held_keys (pending_of w d m))) where
     pub settled_conflict : c ≡ true → Conflict ≡ judge_since began (store_in ws bs) (pending_of w d m)
@@ -91,27 +76,3 @@ module _ (w : List ℕ) (d : Bytes) (m : Member) (ws bs : List ℕ) where
         pub settled_accepted : q ≡ true → Accepted ≡ judge_since began (store_in ws bs) (pending_of w d m)
         unfolding judge_since store_in
         settled_accepted e = rw (sym c-is ∙ c-no, room_agrees ∙ r-yes, sequences_agree ∙ e)
-
--- A STEP: a member that is taken or not
-pub step_taken : (t : Bool) (began : ℕ) (st : Store) (m : Pending) {x : Verdict} → t ≡ true → x ≡ judge_since began st m → x ≡ step_verdict t began st m
-unfolding step_verdict
-step_taken t began st m e is = rw e is
-
-pub step_left : (t : Bool) (began : ℕ) (st : Store) (m : Pending) → t ≡ false → NotTaken ≡ step_verdict t began st m
-unfolding step_verdict
-step_left t began st m e = rw e
-
-module _ {t : Bool} (began i after : ℕ) (t-is : t ≡ taken_at i after) (m : Pending) (ws bs : List ℕ) {x : Verdict} (x-is : x ≡ step_verdict t began (store_in ws bs) m) where
-  verdict_is : x ≡ step_verdict (taken_at i after) began (store_in ws bs) m
-  verdict_is = x-is ∙ ap (λ (b : Bool). step_verdict b began (store_in ws bs) m) t-is
-
-  pub step_byte : (vs : List ℕ) {y : ℕ} → y ≡ verdict_byte x → set vs i y ≡ set vs i (verdict_byte (step_verdict (taken_at i after) began (store_in ws bs) m))
-  step_byte vs y-is = ap (set vs i) (y-is ∙ ap verdict_byte verdict_is)
-
-  pub step_words : {ws' : List ℕ} → ws' ≡ leave_words (store_after x m.writes (store_in ws bs)) ws
-      → ws' ≡ leave_words (store_after (step_verdict (taken_at i after) began (store_in ws bs) m) m.writes (store_in ws bs)) ws
-  step_words e = e ∙ ap (λ (y : Verdict). leave_words (store_after y m.writes (store_in ws bs)) ws) verdict_is
-
-  pub step_bytes : {bs' : List ℕ} → bs' ≡ leave_bytes (store_after x m.writes (store_in ws bs)) bs
-      → bs' ≡ leave_bytes (store_after (step_verdict (taken_at i after) began (store_in ws bs) m) m.writes (store_in ws bs)) bs
-  step_bytes e = e ∙ ap (λ (y : Verdict). leave_bytes (store_after y m.writes (store_in ws bs)) bs) verdict_is

@@ -4,7 +4,7 @@ use native.Mathlib.Omega.{arith}
 use mathlib.Core.Path.{◌≡◌, refl, sym, ap, ◌∙◌}
 use mathlib.Core.Bool.{Bool, true, false, cond, ◌||◌}
 use mathlib.Core.List.{List, [], ◌∷◌, ◌++◌}
-use mathlib.Core.Option.{Option, none, some}
+use Rattle.std.specs.Prelude.{Option, None, Some}
 use lib.Dec.{ltb}
 use borrow.Author.Tests.{lt-ltb, le-ltb, ltb-true, ltb-false}
 use Rattle.base_key.specs.Keys.{Key, same_key}
@@ -89,8 +89,8 @@ lower_either s began n = go (ltb s began) refl (ltb began n) refl
 conflicts_since : (began : ℕ) (written : List Key) (st : Store) → Marked began written st → (r : Option ℕ) (ks : List Key)
     → moved_since r began st.versions ks ≡ conflicts r written st.versions ks
 unfolding moved_since conflicts moved
-conflicts_since began written st p none ks = refl
-conflicts_since began written st p (some s) ks =
+conflicts_since began written st p None ks = refl
+conflicts_since began written st p (Some s) ks =
     any_alike (λ k. ltb (lower s began) (newest st.versions k)) (λ k. among written k || ltb s (newest st.versions k)) ks
     (λ k. lower_either s began (newest st.versions k) ∙ ap (λ (b : Bool). b || ltb s (newest st.versions k)) (p.marks k))
 

@@ -2,10 +2,11 @@
 use Prim.Native.Nat.{ℕ, suc, ◌<◌}
 use native.Mathlib.Omega.{arith}
 use mathlib.Core.Path.{◌≡◌, refl, sym, ap, ◌∙◌, subst}
-use mathlib.Core.Bool.{Bool, true, false}
+use mathlib.Core.Bool.{Bool, true, false, ◌&&◌}
 use mathlib.Core.List.{List, [], ◌∷◌, ◌++◌, map, append-nil, append_assoc}
 use lib.ListN.{length, length-map, get_or, drop, set, length-append}
 use lib.Seq.{drop-cons, drop-length, set-append_seam}
+use Rattle.std.specs.List.{list_all}
 use Rattle.base_key.specs.Bytes.{Bytes, ◌and◌, over_front}
 use Rattle.base_key.specs.Keys.{Key}
 use Rattle.base_key.proofs.Bytes.{and_left, and_right}
@@ -24,40 +25,15 @@ use Rattle.group_spec.proofs.GroupWalk.{walk_group}
 use Rattle.group_spec.proofs.Since.{Marked, marked_first, marked_after_lem}
 use Rattle.group_spec.proofs.WalkStep.{holds_step}
 
--- ALL PARTS INSIDE: the members before i, and those behind
-module _ (w : List ℕ) (d : Bytes) where
-  and_again : (a b c : Bool) → a and (b and c) ≡ (a and b) and c
-  unfolding ◌and◌
-  and_again true b c = refl
-  and_again false b c = refl
-
-  -- one member more
-  pub inside_yes : (m : Member) {t r : Bool} → t ≡ true → r ≡ member_inside w d m → r ≡ t and member_inside w d m
-  unfolding ◌and◌
-  inside_yes m e is = rw e is
-
-  pub inside_no : (m : Member) {t : Bool} → t ≡ false → false ≡ t and member_inside w d m
-  unfolding ◌and◌
-  inside_no m e = rw e
-
-  pub inside_first : (ms : List Member) → members_inside w d ms ≡ true and members_inside w d (drop 0 ms)
-  unfolding ◌and◌
-  inside_first ms = refl
-
-  pub inside_more : (ms : List Member) (m₀ : Member) (i : ℕ) (all : Bool) {r : Bool} → i < length ms → r ≡ all and member_inside w d (get_or ms i m₀)
-      → members_inside w d ms ≡ all and members_inside w d (drop i ms) → members_inside w d ms ≡ r and members_inside w d (drop (suc i) ms)
-  unfolding members_inside
-  inside_more ms m₀ i all h is e =
-      e ∙ ap (λ (l : List Member). all and members_inside w d l) (drop-cons ms i m₀ h) ∙ and_again all (member_inside w d (get_or ms i m₀)) (members_inside w d (drop (suc i) ms))
-      ∙ ap (λ (t : Bool). t and members_inside w d (drop (suc i) ms)) (sym is)
-
-  pub inside_end : (ms : List Member) (all : Bool) → members_inside w d ms ≡ all and members_inside w d (drop (length ms) ms) → all ≡ members_inside w d ms
-  unfolding members_inside ◌and◌
-  inside_end ms all e = sym (e ∙ ap (λ (l : List Member). all and members_inside w d l) (drop-length ms) ∙ and_true all)
-    where
-      and_true : (a : Bool) → a and true ≡ a
-      and_true true = refl
-      and_true false = refl
+-- ALL PARTS INSIDE, by a test of each member
+pub inside_listed : (w : List ℕ) (d : Bytes) (ms : List Member) → list_all (member_inside w d) ms ≡ members_inside w d ms
+unfolding members_inside ◌and◌
+inside_listed w d [] = refl
+inside_listed w d (m ∷ ms) = go (member_inside w d m) (inside_listed w d ms)
+  where
+    go : (t : Bool) → list_all (member_inside w d) ms ≡ members_inside w d ms → t && list_all (member_inside w d) ms ≡ t and members_inside w d ms
+    go true ih = ih
+    go false ih = refl
 
 -- SETTLED. Verdicts in front of those that follow
 abbrev onto : List Verdict → Finished → Finished

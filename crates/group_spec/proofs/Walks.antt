@@ -5,9 +5,12 @@ use native.Mathlib.Numerals.{add-one}
 use native.Mathlib.Omega.{arith}
 use mathlib.Core.Path.{◌≡◌, refl, sym, ap, ◌∙◌}
 use mathlib.Core.Logic.{⊎_elim}
-use mathlib.Core.Bool.{Bool, true, false, false≢true}
+use mathlib.Core.Bool.{Bool, true, false, ◌&&◌, ◌||◌, false≢true}
 use mathlib.Core.List.{List, [], ◌∷◌, ◌++◌}
 use lib.ListN.{length, take, drop}
+use Rattle.std.specs.List.{list_all, list_any, range_with_len}
+use Rattle.base_key.specs.Keys.{Key}
+use Rattle.group_spec.specs.Group.{any_key}
 use Rattle.group_spec.specs.Members.{list_from, all_from}
 
 module _ {i e : ℕ} where
@@ -24,10 +27,6 @@ module _ {i e : ℕ} where
   pub list_end : {A : Type 0} (f : ℕ → A) → e ≤ i → list_from f i (e - i) ≡ []
   unfolding list_from
   list_end f h = ap (list_from f i) (rest_none h)
-
-  pub all_end : (f : ℕ → Bool) → e ≤ i → all_from f i (e - i) ≡ true
-  unfolding all_from
-  all_end f h = ap (all_from f i) (rest_none h)
 
   pub all_yes : (f : ℕ → Bool) → i < e → f i ≡ true → all_from f i (e - i) ≡ all_from f (i + 1) (e - (i + 1))
   unfolding all_from
@@ -111,20 +110,17 @@ all_at f i (suc n) k e l h = go (f i) refl e (λ q z. all_at f (suc i) n k q z (
     go true p q later = ⊎_elim (λ (z : i ≡ k). ap f (sym z) ∙ p) (λ (z : i < k). later q z) (eq-or-lt_of_le l)
     go false p q later = absurd (false≢true q)
 
--- the places before i passed the test
-pub record Passing (f : ℕ → Bool) (first count e i : ℕ) : Type 0 where
-  pub within : i ≤ e
-  pub rest : all_from f first count ≡ all_from f i (e - i)
+-- a chain over the places
+pub all_listed : (f : ℕ → Bool) (i n : ℕ) → list_all f (range_with_len i n) ≡ all_from f i n
+unfolding all_from
+all_listed f i zero = refl
+all_listed f i (suc n) = rw add-one (go (f i) (all_listed f (suc i) n))
+  where
+    go : (t : Bool) → list_all f (range_with_len (suc i) n) ≡ all_from f (suc i) n → t && list_all f (range_with_len (suc i) n) ≡ elim t [ true ↦ all_from f (suc i) n | false ↦ false ]
+    go true ih = ih
+    go false ih = refl
 
-pub passing_none : (f : ℕ → Bool) (first count : ℕ) → Passing f first count (first + count) first
-passing_none f first count = let n : count ≡ first + count - first = omega arith in record { within = omega arith; rest = ap (all_from f first) n }
-
-module _ {f : ℕ → Bool} {first count e i : ℕ} (p : Passing f first count e i) where
-  pub passing_more : {r : Bool} → i < e → r ≡ f i → r ≡ true → Passing f first count e (i + 1)
-  passing_more h is t = record { within = omega arith; rest = p.rest ∙ all_yes f h (sym is ∙ t) }
-
-  pub passing_broken : {r : Bool} → i < e → r ≡ f i → r ≡ false → false ≡ all_from f first count
-  passing_broken h is t = sym (p.rest ∙ all_no f h (sym is ∙ t))
-
-  pub passing_all : e ≤ i → true ≡ all_from f first count
-  passing_all h = sym (p.rest ∙ all_end f h)
+pub any_listed : (f : Key → Bool) (g : ℕ → Key) (i n : ℕ) → list_any (λ j. f (g j)) (range_with_len i n) ≡ any_key f (list_from g i n)
+unfolding list_from any_key
+any_listed f g i zero = refl
+any_listed f g i (suc n) = rw add-one (ap (λ (t : Bool). f (g i) || t) (any_listed f g (suc i) n))

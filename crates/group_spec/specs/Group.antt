@@ -1,6 +1,6 @@
 -- Group verdicts (document 01, section 6). EXEC and a direct command commit as a group of one.
 use Rattle.std.specs.Prelude.{ℕ, suc, ◌+◌, ◌-◌, ◌^◌, Bool, true, false, cond, ◌||◌, ◌&&◌, List, [], ◌∷◌, ◌++◌, map, ◌≡◌, refl, leb, ltb, length, take, replicate}
-use Rattle.std.proofs.Math.Option.{Option, none, some}
+use Rattle.std.specs.Prelude.{Option, None, Some}
 use Rattle.base_key.specs.Keys.{Key, same_key}
 use Rattle.store_memtable.specs.Table.{Write, keys_of}
 use Rattle.store_memtable.specs.Versions.{Version, Store, moved, commit, writes_size, versions_size}
@@ -15,7 +15,7 @@ pub record Pending : Type 0 where
 
 -- writes without a read sequence
 abbrev pub plain : List Write → Pending
-plain ws = record { read_seq = none; writes = ws; also_check = [] }
+plain ws = record { read_seq = None; writes = ws; also_check = [] }
 
 -- the verdict byte
 abbrev pub verdict_byte : Verdict → ℕ
@@ -58,8 +58,8 @@ held_keys m = keys_of m.writes ++ m.also_check
 
 -- one of the keys was written by an earlier accepted member, or has a newest version above the read sequence
 unfoldable pub conflicts : Option ℕ → List Key → List Version → List Key → Bool
-conflicts none written vs ks = false
-conflicts (some s) written vs ks = any_key (λ k. among written k || moved s vs k) ks
+conflicts None written vs ks = false
+conflicts (Some s) written vs ks = any_key (λ k. among written k || moved s vs k) ks
 
 -- 6: versions, or their key plus value bytes, would pass the capacities
 unfoldable pub has_room : Store → List Write → Bool

@@ -1,7 +1,7 @@
 -- A group as it is lent: members, a table of parts in words, and the data. Write j stands at words 4j: key start, key length,
 -- value start, value word (0 tombstone, else length + 1). Check j stands at words 2j: key start, key length.
 use Rattle.std.specs.Prelude.{ℕ, zero, suc, ◌+◌, ◌-◌, ◌*◌, Bool, true, false, cond, List, [], ◌∷◌, leb, eqb, length, get_or}
-use Rattle.std.proofs.Math.Option.{none, some}
+use Rattle.std.specs.Prelude.{None, Some}
 use Rattle.base_key.specs.Bytes.{Bytes, ◌and◌, part}
 use Rattle.base_key.specs.Keys.{Key}
 use Rattle.store_memtable.specs.Table.{Write}
@@ -62,7 +62,7 @@ module _ (w : List ℕ) (d : Bytes) where
   -- the member with its parts looked up; without a read sequence where `has_read` is 0
   unfoldable pub pending_of : Member → Pending
   pending_of m = record {
-    read_seq = cond (eqb m.has_read 0) none (some m.read);
+    read_seq = cond (eqb m.has_read 0) None (Some m.read);
     writes = list_from write_at m.first_write m.writes;
     also_check = list_from check_at m.first_check m.checks;
   }

@@ -1,12 +1,10 @@
 -- What single functions of the group read: sizes by the words of the table, conflicts by newest versions alone, and the facts they ask for.
 use Rattle.std.specs.Prelude.{ℕ, zero, suc, ◌+◌, ◌-◌, ◌*◌, ◌^◌, ◌≤◌, ◌<◌, ◌≡◌, Bool, true, false, cond, List, [], ◌∷◌, ltb, length, get_or}
-use Rattle.std.proofs.Math.Option.{Option, none, some}
+use Rattle.std.specs.Prelude.{Option, None, Some}
 use Rattle.base_key.specs.Bytes.{Bytes, part}
 use Rattle.base_key.specs.Keys.{Key}
 use Rattle.store_memtable.specs.Versions.{Version, Store, moved}
 use Rattle.store_memtable.specs.Layout.{count_word, used_word, last_word, most_versions_word, most_bytes_word}
-use Rattle.store_memtable.specs.declared.open.Left.{Left}
-use Rattle.store_memtable.specs.declared.open.Left.TheVariants.{Rest, Short}
 use Rattle.store_memtable.specs.Rows.{bytes_left}
 use Rattle.group_spec.specs.declared.Member.{Member}
 use Rattle.group_spec.specs.declared.Verdict.{Verdict}
@@ -62,8 +60,8 @@ lower a b = cond (ltb a b) a b
 
 -- a key has a version above the read sequence, or above the last sequence when the group began
 unfoldable pub moved_since : Option ℕ → ℕ → List Version → List Key → Bool
-moved_since none began vs ks = false
-moved_since (some s) began vs ks = any_key (moved (lower s began) vs) ks
+moved_since None began vs ks = false
+moved_since (Some s) began vs ks = any_key (moved (lower s began) vs) ks
 
 -- the verdict, from the store and the last sequence when the group began
 unfoldable pub judge_since : ℕ → Store → Pending → Verdict
@@ -78,9 +76,9 @@ pub record RoomFor (w : List ℕ) (count size : ℕ) : Type 0 where
   pub seqs_free : last_word w + count < 2 ^ 64
 
 -- A STEP OF THE WALK over members. `room` is 0 where no more is taken, else one more than what is left of 1,048,576 bytes
-unfoldable pub as_room : Left → ℕ
-as_room (Rest n) = suc n
-as_room Short = 0
+unfoldable pub as_room : Option ℕ → ℕ
+as_room (Some n) = suc n
+as_room None = 0
 
 -- the room after member i of this size: the first is taken whatever its size
 unfoldable pub room_after : ℕ → ℕ → ℕ → ℕ

@@ -9,13 +9,7 @@ use store_memtable::read;
 fn fits(start: usize, size: usize, len: usize) -> bool
     ensures { result ≡ leb (start + size) len }
 {
-    if len < start {
-        return false;
-    }
-    if len - start < size {
-        return false;
-    }
-    true
+    start <= len && size <= len - start
 }
 
 // Lies the part in the data whose start and length stand at place `at` of the table?
@@ -30,10 +24,7 @@ fn key_inside(parts: &[u64], data: &[u8], at: usize) -> bool
 fn value_inside(start: usize, word: usize, data: &[u8]) -> bool
     ensures { result ≡ value_inside start word «data».now }
 {
-    if word == 0 {
-        return true;
-    }
-    fits(start, word - 1, data.len())
+    word == 0 || fits(start, word - 1, data.len())
 }
 
 // Lie the key and the value of write j in the data?
@@ -42,10 +33,8 @@ fn write_inside(parts: &[u64], data: &[u8], j: usize) -> bool
     ensures { result ≡ write_inside parts.now «data».now j }
 {
     let at = 4 * j;
-    if key_inside(parts, data, at) {
-        return value_inside(read::word(parts, at + 2), read::word(parts, at + 3), data);
-    }
-    false
+    key_inside(parts, data, at)
+        && value_inside(read::word(parts, at + 2), read::word(parts, at + 3), data)
 }
 
 // Lie the keys and values of `count` writes from write `first` on in the data?
@@ -53,16 +42,7 @@ fn writes_inside(parts: &[u64], data: &[u8], first: usize, count: usize) -> bool
     requires { 4 * (first + count) ≤ length parts.now }
     ensures { result ≡ all_from (write_inside parts.now «data».now) first count }
 {
-    let end = first + count;
-    let mut i = first;
-    while i < end {
-        if write_inside(parts, data, i) {
-            i += 1;
-        } else {
-            return false;
-        }
-    }
-    true
+    (first..first + count).all(|j| write_inside(parts, data, j))
 }
 
 // Lie `count` checked keys from check `first` on in the data?
@@ -70,30 +50,15 @@ fn checks_inside(parts: &[u64], data: &[u8], first: usize, count: usize) -> bool
     requires { 2 * (first + count) ≤ length parts.now }
     ensures { result ≡ all_from (check_inside parts.now «data».now) first count }
 {
-    let end = first + count;
-    let mut i = first;
-    while i < end {
-        if key_inside(parts, data, 2 * i) {
-            i += 1;
-        } else {
-            return false;
-        }
-    }
-    true
+    (first..first + count).all(|j| key_inside(parts, data, 2 * j))
 }
 
 // Lie the member's rows in the table, and its keys and values in the data?
 pub fn member_inside(member: Member, parts: &[u64], data: &[u8]) -> bool
     ensures { result ≡ member_inside parts.now «data».now member }
 {
-    if fits(member.first_write, member.writes, parts.len() / 4) {
-        if fits(member.first_check, member.checks, parts.len() / 2) {
-            if writes_inside(parts, data, member.first_write, member.writes) {
-                return checks_inside(parts, data, member.first_check, member.checks);
-            }
-            return false;
-        }
-        return false;
-    }
-    false
+    fits(member.first_write, member.writes, parts.len() / 4)
+        && fits(member.first_check, member.checks, parts.len() / 2)
+        && writes_inside(parts, data, member.first_write, member.writes)
+        && checks_inside(parts, data, member.first_check, member.checks)
 }

@@ -4,20 +4,10 @@ ghost use Rattle.store_memtable.specs.Versions.{moved};
 ghost use Rattle.store_memtable.specs.Rows.{Valid, versions_in};
 ghost use Rattle.group_spec.specs.Group.{any_key, held_keys};
 ghost use Rattle.group_spec.specs.Members.{list_from, member_inside, pending_of};
-ghost use Rattle.group_spec.specs.Settling.{key_part, write_key, check_key, KeyIn, WritesIn, ChecksIn, lower, moved_since};
+ghost use Rattle.group_spec.specs.Settling.{key_part, write_key, check_key, KeyIn, WritesIn, ChecksIn, moved_since};
 
 use crate::{Member, parts};
 use store_memtable::read;
-
-// The lower of the two.
-fn lower(a: u64, b: u64) -> u64
-    ensures { result ≡ lower a b }
-{
-    if a < b {
-        return a;
-    }
-    b
-}
 
 // Has the key a version above `limit` whose place stands at `at` of the table?
 fn key_moved(parts: &[u64], data: &[u8], at: usize, limit: u64, words: &[u64], bytes: &[u8]) -> bool
@@ -42,15 +32,7 @@ fn writes_moved(
     requires valid { Valid words.now bytes.now }
     ensures { result ≡ any_key (moved limit (versions_in words.now bytes.now)) (list_from (write_key parts.now «data».now) first count) }
 {
-    let end = first + count;
-    let mut i = first;
-    while i < end {
-        if key_moved(parts, data, 4 * i, limit, words, bytes) {
-            return true;
-        }
-        i += 1;
-    }
-    false
+    (first..first + count).any(|j| key_moved(parts, data, 4 * j, limit, words, bytes))
 }
 
 // Has one of `count` checked keys from check `first` on a version above `limit`?
@@ -67,15 +49,7 @@ fn checks_moved(
     requires valid { Valid words.now bytes.now }
     ensures { result ≡ any_key (moved limit (versions_in words.now bytes.now)) (list_from (check_key parts.now «data».now) first count) }
 {
-    let end = first + count;
-    let mut i = first;
-    while i < end {
-        if key_moved(parts, data, 2 * i, limit, words, bytes) {
-            return true;
-        }
-        i += 1;
-    }
-    false
+    (first..first + count).any(|j| key_moved(parts, data, 2 * j, limit, words, bytes))
 }
 
 // Has one of the member's keys a version above its read sequence, or above the last sequence when the group began?
@@ -91,28 +65,25 @@ pub fn moved_since(
     requires valid { Valid words.now bytes.now }
     ensures { result ≡ moved_since (pending_of parts.now «data».now member).read_seq began (versions_in words.now bytes.now) (held_keys (pending_of parts.now «data».now member)) }
 {
-    if member.has_read != 0 {
-        let limit = lower(member.read, began);
-        if writes_moved(
-            parts,
-            data,
-            member.first_write,
-            member.writes,
-            limit,
-            words,
-            bytes,
-        ) {
-            return true;
-        }
-        return checks_moved(
-            parts,
-            data,
-            member.first_check,
-            member.checks,
-            limit,
-            words,
-            bytes,
-        );
+    if member.has_read == 0 {
+        return false;
     }
-    false
+    let limit = member.read.min(began);
+    writes_moved(
+        parts,
+        data,
+        member.first_write,
+        member.writes,
+        limit,
+        words,
+        bytes,
+    ) || checks_moved(
+        parts,
+        data,
+        member.first_check,
+        member.checks,
+        limit,
+        words,
+        bytes,
+    )
 }

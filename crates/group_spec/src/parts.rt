@@ -22,8 +22,8 @@ pub fn value_part<'a>(data: &'a [u8], start: usize, word: usize) -> &'a [u8]
     ensures { result.now ≡ part start (word - 1) «data».now }
 {
     if word == 0 {
-        return &data[..0];
+        &[]
+    } else {
+        &data[start..start + (word - 1)]
     }
-    let end = start + (word - 1);
-    &data[start..end]
 }

@@ -4,11 +4,10 @@ ghost use Rattle.store_memtable.specs.Rows.{bytes_left};
 ghost use Rattle.group_spec.specs.Settling.{as_room, room_after, size_at, sizes_from, taken_at};
 
 use store_commit::open;
-use store_memtable::open::Left;
 use store_memtable::read;
 
 // What the key and the value of write j leave of `left` bytes.
-fn write_left(parts: &[u64], j: usize, left: usize) -> Left
+fn write_left(parts: &[u64], j: usize, left: usize) -> Option<usize>
     requires { 4 * j + 4 ≤ length parts.now }
     ensures { result ≡ bytes_left left (size_at parts.now j) }
 {
@@ -18,34 +17,28 @@ fn write_left(parts: &[u64], j: usize, left: usize) -> Left
 }
 
 // What the keys and values of `count` writes from write `first` on leave of `left` bytes.
-pub fn writes_left(parts: &[u64], first: usize, count: usize, left: usize) -> Left
+pub fn writes_left(parts: &[u64], first: usize, count: usize, left: usize) -> Option<usize>
     requires { 4 * (first + count) ≤ length parts.now }
     ensures { result ≡ bytes_left left (sizes_from parts.now first count) }
 {
-    let end = first + count;
     let mut rest = left;
-    let mut i = first;
-    while i < end {
-        let after = write_left(parts, i, rest);
-        match after {
-            Left::Short => return Left::Short,
-            Left::Rest(n) => {
-                rest = n;
-                i += 1;
-            }
-        }
+    for j in first..first + count {
+        let Some(after) = write_left(parts, j, rest) else {
+            return None;
+        };
+        rest = after;
     }
-    Left::Rest(rest)
+    Some(rest)
 }
 
 // One more than the rest, or 0.
-fn as_room(left: Left) -> usize
+fn as_room(left: Option<usize>) -> usize
     requires { as_room left < 2 ^ 64 }
     ensures { result ≡ as_room left }
 {
     match left {
-        Left::Rest(n) => n + 1,
-        Left::Short => 0,
+        Some(n) => n + 1,
+        None => 0,
     }
 }
 
@@ -55,23 +48,17 @@ pub fn room_after(parts: &[u64], first: usize, count: usize, i: usize, room: usi
     ensures { result ≡ room_after i room (sizes_from parts.now first count) }
 {
     if i == 0 {
-        return as_room(writes_left(parts, first, count, 1048576));
+        as_room(writes_left(parts, first, count, 1048576))
+    } else if room == 0 {
+        0
+    } else {
+        as_room(writes_left(parts, first, count, room - 1))
     }
-    if room == 0 {
-        return 0;
-    }
-    as_room(writes_left(parts, first, count, room - 1))
 }
 
 // Is member i taken, where this room is after it?
 pub fn taken_at(i: usize, after: usize) -> bool
     ensures { result ≡ taken_at i after }
 {
-    if i == 0 {
-        return true;
-    }
-    if after == 0 {
-        return false;
-    }
-    true
+    i == 0 || after != 0
 }

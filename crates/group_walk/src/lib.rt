@@ -2,33 +2,18 @@
 #![tactic(auto)]
 
 ghost use Rattle.std.specs.Prelude.{◌≡◌};
-ghost use Rattle.base_key.specs.Bytes.{◌and◌};
-ghost use Rattle.group_spec.specs.Members.{member_inside, members_inside};
+ghost use Rattle.group_spec.specs.Members.{members_inside};
 ghost use Rattle.group_spec.specs.Walked.{GroupReady, GroupLeft};
 
 use group_spec::{Member, bounds};
-
-// Do the parts of one more member lie in their buffers, where `before` says so of those before it?
-fn inside_next(before: bool, member: Member, parts: &[u64], data: &[u8]) -> bool
-    ensures { result ≡ before and member_inside parts.now «data».now member }
-{
-    if before {
-        return bounds::member_inside(member, parts, data);
-    }
-    false
-}
 
 // Do the parts of all members lie in their buffers?
 pub fn members_inside(members: &[Member], parts: &[u64], data: &[u8]) -> bool
     ensures { result ≡ members_inside parts.now «data».now members.now }
 {
-    let mut all = true;
-    let mut i = 0;
-    while i < members.len() {
-        all = inside_next(all, members[i], parts, data);
-        i += 1;
-    }
-    all
+    members
+        .iter()
+        .all(|member| bounds::member_inside(*member, parts, data))
 }
 
 // Settles all members in order; `began` is the last sequence when the group began.
@@ -45,11 +30,9 @@ pub fn settle_all(
     ensures { GroupLeft members.now parts.now «data».now words.old bytes.old verdicts.old words.new bytes.new verdicts.new }
 {
     let mut room = 0;
-    let mut i = 0;
-    while i < members.len() {
+    for (i, member) in members.iter().enumerate() {
         room = group_judge::settle_next(
-            members[i], i, began, room, parts, data, words, bytes, verdicts,
+            *member, i, began, room, parts, data, words, bytes, verdicts,
         );
-        i += 1;
     }
 }

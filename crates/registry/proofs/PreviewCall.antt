@@ -5,30 +5,17 @@ use mathlib.Core.Path.{◌≡◌, refl, sym, ap, ◌∙◌}
 use mathlib.Core.Bool.{Bool, true, false}
 use mathlib.Core.List.{List}
 use lib.Dec.{ltb}
-use lib.ListN.{length, replicate, length-replicate}
+use lib.ListN.{length, replicate}
 use Rattle.base_key.specs.Bytes.{Bytes}
 use Rattle.command_spec.specs.Finish.{reply_buffer}
 use Rattle.exec_decision.specs.declared.Preview.{Preview}
 use Rattle.exec_decision.specs.Decided.{refused_preview}
-use Rattle.call_spec.specs.Calls.{Lent, lent_of, valid, Called, refuses, preview_call, preview_of, PreviewPromise}
+use Rattle.call_spec.specs.Calls.{lent_of, valid, Called, refuses, preview_call, preview_of, PreviewPromise}
 use Rattle.call_spec.proofs.CallLaws.{preview_no_session, preview_not_valid}
 use Rattle.call_numbers.specs.Numbers.{request_number}
 use Rattle.registry.proofs.RequestCall.{number_as}
 
 module _ (i : ℕ) (w : List ℕ) (b : Bytes) (sw : List ℕ) (sb : Bytes) {n : ℕ} (n-is : n ≡ request_number i (lent_of w b sw sb)) (out : Bytes) {out₁ : Bytes} (cleared : out₁ ≡ replicate (length out) 0) where
-  long : length out₁ ≡ length out
-  long = ap length cleared ∙ length-replicate (length out) 0
-
-  -- the promise hangs on the length of the reply buffer alone
-  pub preview_served : {l : Lent} {r : Preview} {out' : Bytes} {l' : Lent} → PreviewPromise i out₁ l r out' l' → PreviewPromise i out l r out' l'
-  preview_served {l} {r} {out'} {l'} p =
-      let called : preview_call i (length out₁) l ≡ preview_call i (length out) l = ap (λ (m : ℕ). preview_call i m l) long in
-      record {
-        preview = p.preview ∙ ap (λ (x : Called). preview_of x.outcome) called;
-        reply = p.reply ∙ (λ z. reply_buffer (long z) (called z).outcome.reply);
-        lent = p.lent ∙ ap (λ (x : Called). x.lent) called;
-      }
-
   -- 1 and 9
   pub preview_refused : {r : Preview} → (n ≡ 0 → ⊥) → r ≡ refused_preview n → PreviewPromise i out (lent_of w b sw sb) r out₁ (lent_of w b sw sb)
   unfolding reply_buffer

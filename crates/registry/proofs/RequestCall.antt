@@ -11,7 +11,7 @@ use Rattle.base_key.specs.Bytes.{Bytes}
 use Rattle.command_spec.specs.declared.Answer.{Answer}
 use Rattle.command_spec.specs.Finish.{reply_buffer}
 use Rattle.command_answer.specs.Answers.{refusal}
-use Rattle.call_spec.specs.Calls.{Lent, lent_of, valid, Called, refuses, answer_of, request_call, RequestPromise, TablePromise}
+use Rattle.call_spec.specs.Calls.{lent_of, valid, Called, refuses, answer_of, request_call, RequestPromise, TablePromise}
 use Rattle.call_numbers.specs.Numbers.{request_number}
 use Rattle.call_serve.specs.Serving.{ReadyAmong}
 use Rattle.call_spec.proofs.CallLaws.{no_session, not_valid}
@@ -44,16 +44,6 @@ module _ (i : ℕ) (w : List ℕ) (b : Bytes) (sw : List ℕ) (sb : Bytes) {n : 
       fit = (passed e).1;
       cleared = cleared ∙ ap (λ (m : ℕ). replicate m 0) (sym long);
     }
-
-    -- the promise hangs on the length of the reply buffer alone
-    pub request_served : {input : Bytes} {places : ℕ} {l : Lent} {r : Answer} {out' : Bytes} {l' : Lent} → RequestPromise i input places out₁ l r out' l' → RequestPromise i input places out l r out' l'
-    request_served {input} {places} {l} {r} {out'} {l'} p =
-        let called : request_call i input places (length out₁) l ≡ request_call i input places (length out) l = ap (λ (m : ℕ). request_call i input places m l) long in
-        record {
-          answer = p.answer ∙ ap (λ (x : Called). answer_of x.outcome) called;
-          reply = p.reply ∙ (λ z. reply_buffer (long z) (called z).outcome.reply);
-          lent = p.lent ∙ ap (λ (x : Called). x.lent) called;
-        }
 
     -- 1 and 9 leave all
     pub request_refused : (input : Bytes) (places : ℕ) {r : Answer} → (n ≡ 0 → ⊥) → r ≡ refusal n → RequestPromise i input places out (lent_of w b sw sb) r out₁ (lent_of w b sw sb)

@@ -6,7 +6,8 @@ pub fn open(words: &mut [u64], bytes: &[u8], last: u64, versions: usize, size: u
     ensures { OpenPromise last versions size words.old bytes.now result words.new bytes.now }
 {
     if store_commit::open::open(words, bytes, last, versions, size) {
-        return 0;
+        0
+    } else {
+        9
     }
-    9
 }

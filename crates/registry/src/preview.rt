@@ -17,8 +17,8 @@ pub fn preview(
 {
     base_writing::clear(out);
     let number = call_numbers::request_number(session, words, bytes, swords, sbytes);
-    if number == 0 {
-        return call_serve::preview_session(session, words, bytes, swords, sbytes, out);
+    if number != 0 {
+        return exec_decision::refusal(number);
     }
-    exec_decision::refusal(number)
+    call_serve::preview_session(session, words, bytes, swords, sbytes, out)
 }

@@ -21,8 +21,8 @@ pub fn request(
 {
     base_writing::clear(out);
     let number = call_numbers::request_number(session, words, bytes, swords, sbytes);
-    if number == 0 {
-        return call_serve::serve_session(session, input, places, words, bytes, swords, sbytes, out);
+    if number != 0 {
+        return command_answer::refusal(number);
     }
-    command_answer::refusal(number)
+    call_serve::serve_session(session, input, places, words, bytes, swords, sbytes, out)
 }

@@ -1,9 +1,7 @@
 -- What the calls for C and Rust return beside the published ones: a value, or a live key, as parts of the store's bytes; an answer of the reader of replies.
 use Rattle.std.specs.Prelude.{◌≡◌, ℕ, suc, ◌-◌, ◌/◌, cond, List, eqb, length}
-use Rattle.std.proofs.Math.Option.{Option, none, some}
+use Rattle.std.specs.Prelude.{Option, None, Some}
 use Rattle.base_key.specs.Bytes.{Bytes, part}
-use Rattle.store_memtable.specs.declared.Found.{Found}
-use Rattle.store_memtable.specs.declared.Found.TheVariants.{At, Nothing}
 use Rattle.store_memtable.specs.Table.{Value}
 use Rattle.store_memtable.specs.Versions.{find_from}
 use Rattle.store_memtable.specs.Layout.{count_word, last_word, start_word, key_word, value_word, value_start, valid_store}
@@ -37,9 +35,9 @@ abbrev pub reading_at : List ℕ → ℕ → Reading
 reading_at w i = record { number = 0; found = 1; start = value_start w i; size = value_word w i - 1 }
 
 -- the value at a place that was found
-unfoldable pub reading_of : List ℕ → Found → Reading
-reading_of w (At i) = reading_at w i
-reading_of w Nothing = no_reading 0
+unfoldable pub reading_of : List ℕ → Option ℕ → Reading
+reading_of w (Some i) = reading_at w i
+reading_of w None = no_reading 0
 
 -- the value that a read at the last sequence gives
 unfoldable pub last_reading : List ℕ → Bytes → Bytes → Reading
@@ -51,7 +49,7 @@ read_call w b k = cond (valid_store w b) (last_reading w b k) (no_reading 9)
 
 -- the value that a reading names in the store's bytes
 abbrev pub value_read : Bytes → Reading → Option Value
-value_read b r = cond (eqb r.found 0) none (some (part r.start r.size b))
+value_read b r = cond (eqb r.found 0) None (Some (part r.start r.size b))
 
 -- no live key, with this number
 abbrev pub no_listed : ℕ → Listed
@@ -70,9 +68,9 @@ listed_at w i = record {
 }
 
 -- the live key at a place that was found
-unfoldable pub listed_of : List ℕ → Found → Listed
-listed_of w (At i) = listed_at w i
-listed_of w Nothing = no_listed 0
+unfoldable pub listed_of : List ℕ → Option ℕ → Listed
+listed_of w (Some i) = listed_at w i
+listed_of w None = no_listed 0
 
 -- the first live key at or behind the place `from`
 unfoldable pub next_listed : List ℕ → Bytes → ℕ → Listed

@@ -6,10 +6,12 @@ ghost use Rattle.store_memtable.specs.Rows.{RowIn, Valid};
 ghost use Rattle.call_spec.specs.Calls.{GroupPromise, OpenPromise, PreviewPromise, RequestPromise, TablePromise, lent_of};
 ghost use Rattle.registry_c.specs.Station.{answer_in, entry_call, last_reading, listed_at, next_listed, no_listed, no_reading, preview_in, read_call, reading_at, reply_answer, ReplyPromise};
 
+use command_spec::Answer;
+use exec_decision::Preview;
 use group_spec::Member;
 use reply_item::ReplyRead;
 use store_commit::valid;
-use store_memtable::{Found, LAST, live, read};
+use store_memtable::{LAST, live, read};
 
 // What a request returns: 0 or a number of document 01, the bytes used, and the length of the reply.
 #[repr(C)]
@@ -20,6 +22,18 @@ pub struct Answered {
     pub reply: usize,
 }
 
+impl From<Answer> for Answered {
+    ghost from_gives = { λ answer result. answer ≡ answer_in result };
+
+    fn from(answer: Answer) -> Answered {
+        Answered {
+            number: answer.number,
+            used: answer.used,
+            reply: answer.reply,
+        }
+    }
+}
+
 // What a preview returns: 0 or a number, the verdict (255: none is reached), the length of the reply, and the last sequence that EXEC would leave.
 #[repr(C)]
 #[derive(Clone, Copy)]
@@ -28,6 +42,19 @@ pub struct Previewed {
     pub verdict: u64,
     pub reply: usize,
     pub last: u64,
+}
+
+impl From<Preview> for Previewed {
+    ghost from_gives = { λ preview result. preview ≡ preview_in result };
+
+    fn from(preview: Preview) -> Previewed {
+        Previewed {
+            number: preview.number,
+            verdict: preview.verdict,
+            reply: preview.reply,
+            last: preview.last,
+        }
+    }
 }
 
 // A value: 0 or 9, 1 if it was found, and the part of the store's bytes that holds it.
@@ -74,6 +101,44 @@ const FAULT: u64 = 2;
 
 const REFUSED: u64 = 3;
 
+impl From<ReplyRead> for ReplyAnswer {
+    ghost from_gives = { λ read result. result ≡ reply_answer read };
+
+    #[tactic(auto, unfolding(crate::specs::Station::reply_answer))]
+    fn from(read: ReplyRead) -> ReplyAnswer {
+        match read {
+            ReplyRead::Wait => ReplyAnswer {
+                number: 0,
+                state: WAIT,
+                used: 0,
+                items: 0,
+                offset: 0,
+            },
+            ReplyRead::Whole(used, items) => ReplyAnswer {
+                number: 0,
+                state: WHOLE,
+                used,
+                items,
+                offset: 0,
+            },
+            ReplyRead::Fault(offset) => ReplyAnswer {
+                number: 0,
+                state: FAULT,
+                used: 0,
+                items: 0,
+                offset,
+            },
+            ReplyRead::Returned(number) => ReplyAnswer {
+                number,
+                state: REFUSED,
+                used: 0,
+                items: 0,
+                offset: 0,
+            },
+        }
+    }
+}
+
 // Opens an empty store with this last sequence and these capacities: 0, or 9 where the buffers do not hold them.
 #[unsafe(no_mangle)]
 pub extern "C" fn registry_open(
@@ -106,11 +171,7 @@ pub extern "C" fn registry_request(
     let answer = registry::request::request(
         session, input, places, words, bytes, swords, sbytes, out,
     );
-    Answered {
-        number: answer.number,
-        used: answer.used,
-        reply: answer.reply,
-    }
+    Answered::from(answer)
 }
 
 // What EXEC of a session would give. The reply stands in front of `out`, with zero behind it; store and sessions stay as they are.
@@ -126,12 +187,7 @@ pub extern "C" fn registry_preview(
     ensures { PreviewPromise session out.old (lent_of words.now bytes.now swords.now sbytes.now) (preview_in result) out.new (lent_of words.now bytes.now swords.now sbytes.now) }
 {
     let preview = registry::preview::preview(session, words, bytes, swords, sbytes, out);
-    Previewed {
-        number: preview.number,
-        verdict: preview.verdict,
-        reply: preview.reply,
-        last: preview.last,
-    }
+    Previewed::from(preview)
 }
 
 // Judges a group and commits the accepted members: 0, or 8 or 9, which leave all. A verdict byte is written for each member.
@@ -159,7 +215,7 @@ fn value_at(words: &[u64], bytes: &[u8], i: usize) -> Reading
     Reading {
         number: 0,
         found: 1,
-        start: start,
+        start,
         size: read::value_len(read::word(words, row + 2)),
     }
 }
@@ -169,7 +225,7 @@ fn no_value(number: u64) -> Reading
     ensures { result ≡ no_reading number }
 {
     Reading {
-        number: number,
+        number,
         found: 0,
         start: 0,
         size: 0,
@@ -177,18 +233,19 @@ fn no_value(number: u64) -> Reading
 }
 
 // The value of a key at the last sequence of a valid store.
+#[tactic(auto, unfolding(crate::specs::Station::last_reading, crate::specs::Station::reading_of))]
 fn value_of(words: &[u64], bytes: &[u8], name: &[u8]) -> Reading
     requires { Valid words.now bytes.now }
     ensures { result ≡ last_reading words.now bytes.now name.now }
 {
-    let found = read::find_value(words, bytes, name, words[LAST]);
-    match found {
-        Found::At(i) => value_at(words, bytes, i),
-        Found::Nothing => no_value(0),
+    match read::find_value(words, bytes, name, words[LAST]) {
+        Some(i) => value_at(words, bytes, i),
+        None => no_value(0),
     }
 }
 
 // The value of a key at the last sequence.
+#[tactic(auto, using(store_memtable::proofs::Validity::validated), unfolding(crate::specs::Station::read_call))]
 #[unsafe(no_mangle)]
 pub extern "C" fn registry_read(words: &[u64], bytes: &[u8], name: &[u8]) -> Reading
     ensures { result ≡ read_call words.now bytes.now name.now }
@@ -223,7 +280,7 @@ fn no_entry(number: u64) -> Listed
     ensures { result ≡ no_listed number }
 {
     Listed {
-        number: number,
+        number,
         found: 0,
         next: 0,
         key_start: 0,
@@ -234,18 +291,19 @@ fn no_entry(number: u64) -> Listed
 }
 
 // The first live key of a valid store at or behind the place `from`.
+#[tactic(auto, unfolding(crate::specs::Station::next_listed, crate::specs::Station::listed_of))]
 fn entry_from(words: &[u64], bytes: &[u8], from: usize) -> Listed
     requires { Valid words.now bytes.now }
     ensures { result ≡ next_listed words.now bytes.now from }
 {
-    let found = live::next_live(words, bytes, from);
-    match found {
-        Found::At(i) => entry_at(words, bytes, i),
-        Found::Nothing => no_entry(0),
+    match live::next_live(words, bytes, from) {
+        Some(i) => entry_at(words, bytes, i),
+        None => no_entry(0),
     }
 }
 
 // The first live key at or behind the place `from`. A walk begins at 0 and goes on at `next`.
+#[tactic(auto, using(store_memtable::proofs::Validity::validated), unfolding(crate::specs::Station::entry_call))]
 #[unsafe(no_mangle)]
 pub extern "C" fn registry_entry_from(words: &[u64], bytes: &[u8], from: usize) -> Listed
     ensures { result ≡ entry_call words.now bytes.now from }
@@ -256,47 +314,11 @@ pub extern "C" fn registry_entry_from(words: &[u64], bytes: &[u8], from: usize) 
     no_entry(9)
 }
 
-// An answer of the reader, in words.
-fn reply_answer(read: ReplyRead) -> ReplyAnswer
-    ensures { result ≡ reply_answer read }
-{
-    match read {
-        ReplyRead::Wait => ReplyAnswer {
-            number: 0,
-            state: WAIT,
-            used: 0,
-            items: 0,
-            offset: 0,
-        },
-        ReplyRead::Whole(used, items) => ReplyAnswer {
-            number: 0,
-            state: WHOLE,
-            used: used,
-            items: items,
-            offset: 0,
-        },
-        ReplyRead::Fault(offset) => ReplyAnswer {
-            number: 0,
-            state: FAULT,
-            used: 0,
-            items: 0,
-            offset: offset,
-        },
-        ReplyRead::Returned(number) => ReplyAnswer {
-            number: number,
-            state: REFUSED,
-            used: 0,
-            items: 0,
-            offset: 0,
-        },
-    }
-}
-
 // Reads the reply at the front of `input` into the table `items`, four words for an item.
 #[unsafe(no_mangle)]
 pub extern "C" fn registry_read_reply(input: &[u8], items: &mut [u64]) -> ReplyAnswer
     ensures { ReplyPromise input.now items.old result items.new }
 {
     let read = reply_reader::read_reply(input, items);
-    reply_answer(read)
+    ReplyAnswer::from(read)
 }

@@ -5,14 +5,14 @@ use mathlib.Core.List.{[], ◌∷◌}
 use Prim.Native.Nat.{ℕ, zero, suc, ◌+◌, ◌-◌, ◌≤◌, ◌<◌}
 use native.Mathlib.Omega.{arith}
 use lib.Dec.{leb}
-use lib.ListN.{length, take, drop, length-drop}
+use lib.ListN.{length, take, drop}
 use borrow.Author.Tests.{lt-ltb, le-ltb}
 use Rattle.base_key.specs.Bytes.{Bytes}
 use Rattle.base_writing.proofs.Lent.{rest, rest_is}
 use Rattle.resp_spec.specs.declared.Fault.{Fault as RequestFault}
 use Rattle.resp_spec.specs.declared.line.Line.{Line as LineAnswer}
 use Rattle.resp_spec.specs.declared.line.Line.TheVariants.{Text, Unfinished, TooLong}
-use Rattle.resp_spec.specs.Request.{line_of, counts, begins_cr_lf, bulk_body, with_span, Reading, waits as waits-request, faulty as faulty-request, too_many, whole as whole-request}
+use Rattle.resp_spec.specs.Request.{line_of, begins_cr_lf, bulk_body, with_span, Reading, waits as waits-request, faulty as faulty-request, too_many, whole as whole-request}
 use Rattle.resp_spec.specs.Steps.{LineIs, line_of_answer, Inside, Next as Behind}
 use Rattle.resp_bulk.specs.declared.Argument.{Argument}
 use Rattle.resp_bulk.specs.declared.Argument.TheVariants.{Unread, Faulty, Part}
@@ -25,6 +25,7 @@ use Rattle.reply_item.specs.declared.Step.{Step}
 use Rattle.reply_item.specs.declared.Step.TheVariants.{Wait, Fault, Returned, Next, Opens}
 use Rattle.reply_item.specs.Replies.{ReplyReading, waits, faulty, returns, whole, placed, body_of, Inner, item_of, item_by_line, item_line_of, too_deep}
 use Rattle.reply_item.specs.Steps.{goes_on, level, StepIs, item_parsed, item_of_line, item_at, BodyIs}
+use Rattle.std.specs.Prelude.{Ok}
 
 -- THE BYTES OF A BULK, read as those of an argument
 -- behind which nothing is read
@@ -39,11 +40,11 @@ as_bulk at too_many = waits
 as_bulk at (whole-request [] used) = waits
 as_bulk at (whole-request (p ∷ ps) used) = whole (BulkText p.start p.len ∷ []) used
 
-body_asked : (at start size : ℕ) (s : Bytes) → body_of at start size s ≡ as_bulk at (bulk_body alone start s (counts size))
+body_asked : (at start size : ℕ) (s : Bytes) → body_of at start size s ≡ as_bulk at (bulk_body alone start s (Ok size))
 unfolding body_of bulk_body with_span alone as_bulk
 body_asked at start size s = go (leb (size + 2) (length s)) (begins_cr_lf (drop size s)) refl refl
   where
-    go : (long ends : Bool) → leb (size + 2) (length s) ≡ long → begins_cr_lf (drop size s) ≡ ends → body_of at start size s ≡ as_bulk at (bulk_body alone start s (counts size))
+    go : (long ends : Bool) → leb (size + 2) (length s) ≡ long → begins_cr_lf (drop size s) ≡ ends → body_of at start size s ≡ as_bulk at (bulk_body alone start s (Ok size))
     go false ends l e = rw (l, bulk_body) refl
     go true true l e = rw (l, e, bulk_body) refl
     go true false l e = rw (l, e, bulk_body) refl
@@ -178,6 +179,16 @@ module _ (input : Bytes) (places depth n at end : ℕ) (w : Inside input end) {p
           deep = λ c stop is. omega arith;
         }
 
+  -- an item that is no array, where no place is left
+  pub step_no_place : (parsed ≡ Wrong → ⊥) → ((count : ℕ) → parsed ≡ ItemsFollow count → ⊥) → places ≤ n → StepIs (item_parsed places input n at end parsed) input places n depth (Returned 11)
+  step_no_place right flat h = go parsed refl
+    where
+      go : (p : ItemLine) → parsed ≡ p → StepIs (item_parsed places input n at end parsed) input places n depth (Returned 11)
+      go Wrong e = absurd (right e)
+      go (Complete i) e = step_full e h
+      go (BulkFollows size) e = step_bulk_full e h
+      go (ItemsFollow count) e = absurd (flat count e)
+
 -- THE LINE
 module _ (input : Bytes) (places depth n at len used : ℕ) (w : LineFrom input at len used) where
   pub line_end : Inside input (at + used)
@@ -201,11 +212,6 @@ module _ (input : Bytes) (places depth n at : ℕ) (w : Inside input at) {r : Li
   pub step_too_long : r ≡ TooLong → StepIs (item_at places input n at) input places n depth (Fault at)
   unfolding item_at item_by_line
   step_too_long e = step_fault (λ items. rw (← line_is, e) refl)
-
-  pub step_line_in : {len used : ℕ} → r ≡ Text len used → LineFrom input at len used
-  step_line_in {len} {used} e =
-      let i = l.inside len used e in
-      record { text = i.text; inside = omega (arith, i.inside, ap length (rest_is at input), length-drop at input, w.inside) }
 
   pub step_text : {len used : ℕ} {s : Step} → r ≡ Text len used → StepIs (item_of_line places input n at len used) input places n depth s → StepIs (item_at places input n at) input places n depth s
   unfolding item_at item_of_line

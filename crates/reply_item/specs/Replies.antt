@@ -1,12 +1,11 @@
 -- Reading a reply (document 02, R-10, with the number form of R-1; the RESP2 specification).
 use Rattle.std.specs.Prelude.{ℕ, zero, suc, ◌+◌, ◌-◌, ◌*◌, ◌^◌, cond, List, [], ◌∷◌, ◌++◌, leb, ltb, eqb, ℤ, pos, negsuc, length, drop, replicate}
 use Rattle.base_key.specs.Bytes.{Bytes, bytes, same_bytes}
-use Rattle.base_number.specs.declared.Number.{Number}
-use Rattle.base_number.specs.declared.Number.TheVariants.{Int, Bad}
 use Rattle.base_number.specs.Number.{int_arg}
 use Rattle.resp_spec.specs.declared.Header.{Header}
 use Rattle.resp_spec.specs.declared.Header.TheVariants.{Multibulk, Bulk}
-use Rattle.resp_spec.specs.Request.{Line, line, unfinished, too_long, line_of, Counted, counts, wrong, header_of, begins_cr_lf}
+use Rattle.resp_spec.specs.Request.{Line, line, unfinished, too_long, line_of, header_of, begins_cr_lf}
+use Rattle.resp_spec.specs.declared.Fault.{Fault as RequestFault}
 use Rattle.reply_item.specs.declared.Item.{Item}
 use Rattle.reply_item.specs.declared.Item.TheVariants.{SimpleText, ErrorText, WholeNumber, BulkText, NoBulk, NoArray, ArrayOf}
 use Rattle.reply_item.specs.declared.Size.{Size}
@@ -15,6 +14,8 @@ use Rattle.reply_item.specs.declared.ItemLine.{ItemLine}
 use Rattle.reply_item.specs.declared.ItemLine.TheVariants.{Complete, BulkFollows, ItemsFollow, Wrong}
 use Rattle.reply_item.specs.declared.ReplyRead.{ReplyRead}
 use Rattle.reply_item.specs.declared.ReplyRead.TheVariants.{Wait, Whole, Fault, Returned}
+use Rattle.std.specs.Prelude.{Option, None, Some}
+use Rattle.std.specs.Prelude.{Err, Ok, Result}
 
 -- WHOLE NUMBERS, of the form that a counter's text has. A number as a word of 64 bits: two's complement
 unfoldable pub word_of : ℤ → ℕ
@@ -22,9 +23,9 @@ word_of (pos n) = n
 word_of (negsuc n) = 2 ^ 64 - 1 - n
 
 -- LENGTHS AND COUNTS. What the request reader takes, within its limits.
-unfoldable pub counted_size : Counted → Size
-counted_size (counts n) = Of n
-counted_size (wrong f) = NoSize
+unfoldable pub counted_size : Result ℕ RequestFault → Size
+counted_size (Ok n) = Of n
+counted_size (Err f) = NoSize
 
 -- `-1` says that there is no bulk, or no array; a `+` (43) is no length
 unfoldable pub reply_size : Header → Bytes → Size
@@ -33,9 +34,9 @@ reply_size h (b ∷ text) =
     cond (same_bytes (b ∷ text) (bytes "-1")) Absent (cond (eqb b 43) NoSize (counted_size (header_of h 0 (b ∷ text))))
 
 -- THE LINE OF AN ITEM says an item that is complete with it, or what follows.
-unfoldable pub number_line : Number → ItemLine
-number_line Bad = Wrong
-number_line (Int z) = Complete (WholeNumber (word_of z))
+unfoldable pub number_line : Option ℤ → ItemLine
+number_line None = Wrong
+number_line (Some z) = Complete (WholeNumber (word_of z))
 
 unfoldable pub bulk_line : Size → ItemLine
 bulk_line NoSize = Wrong

@@ -32,24 +32,12 @@ fn read_array(text: &[u8]) -> ItemLine
 pub fn read_item_line(text: &[u8], from: usize) -> ItemLine
     ensures { result ≡ item_line_of from text.now }
 {
-    if text.len() == 0 {
-        return ItemLine::Wrong;
+    match text {
+        [b'+', rest @ ..] => ItemLine::Complete(Item::SimpleText(from, rest.len())),
+        [b'-', rest @ ..] => ItemLine::Complete(Item::ErrorText(from, rest.len())),
+        [b':', rest @ ..] => whole_number::read_number(rest),
+        [b'$', rest @ ..] => read_bulk(rest),
+        [b'*', rest @ ..] => read_array(rest),
+        _ => ItemLine::Wrong,
     }
-    let kind = text[0];
-    if kind == b'+' {
-        return ItemLine::Complete(Item::SimpleText(from, text.len() - 1));
-    }
-    if kind == b'-' {
-        return ItemLine::Complete(Item::ErrorText(from, text.len() - 1));
-    }
-    if kind == b':' {
-        return whole_number::read_number(&text[1..]);
-    }
-    if kind == b'$' {
-        return read_bulk(&text[1..]);
-    }
-    if kind == b'*' {
-        return read_array(&text[1..]);
-    }
-    ItemLine::Wrong
 }

@@ -44,27 +44,11 @@ fn step_parsed(
 {
     match parsed {
         ItemLine::Wrong => Step::Fault(at),
-        ItemLine::Complete(item) => {
-            if places <= n {
-                return Step::Returned(NO_PLACE);
-            }
-            Step::Next(item, end)
-        }
-        ItemLine::BulkFollows(size) => {
-            if places <= n {
-                return Step::Returned(NO_PLACE);
-            }
-            read_bulk_text(input, at, end, size)
-        }
-        ItemLine::ItemsFollow(count) => {
-            if depth == 0 {
-                return Step::Returned(TOO_DEEP);
-            }
-            if places <= n {
-                return Step::Returned(NO_PLACE);
-            }
-            Step::Opens(count, end)
-        }
+        ItemLine::ItemsFollow(_) if depth == 0 => Step::Returned(TOO_DEEP),
+        _ if places <= n => Step::Returned(NO_PLACE),
+        ItemLine::Complete(item) => Step::Next(item, end),
+        ItemLine::BulkFollows(size) => read_bulk_text(input, at, end, size),
+        ItemLine::ItemsFollow(count) => Step::Opens(count, end),
     }
 }
 

@@ -2,7 +2,7 @@
 use mathlib.Core.Path.{◌≡◌, refl, sym, ap, subst, ◌∙◌}
 use mathlib.Core.Bool.{Bool, true, false, cond}
 use mathlib.Core.List.{List, [], ◌∷◌, ◌++◌, append_assoc, append-nil}
-use mathlib.Core.Option.{Option, none, some}
+use Rattle.std.specs.Prelude.{Option, None, Some}
 use Prim.Native.Nat.{ℕ, zero, suc, ◌+◌, ◌-◌, ◌*◌, ◌/◌, ◌^◌, ◌≤◌, ◌<◌}
 use native.Mathlib.Omega.{arith}
 use lib.Dec.{eqb, leb, ltb}
@@ -10,16 +10,12 @@ use lib.ListN.{length, take, drop, replicate, length-append, length-take}
 use lib.Signed.{mag}
 use borrow.Author.Tests.{leb-true, ltb-true, ltb-false}
 use Rattle.base_key.specs.Bytes.{Bytes, bytes, same_bytes, part}
-use Rattle.base_number.specs.declared.Number.{Number}
-use Rattle.base_number.specs.declared.Number.TheVariants.{Int, Bad}
-use Rattle.base_number.specs.declared.Length.{Length}
-use Rattle.base_number.specs.declared.Length.TheVariants.{Value, NoLength}
 use Rattle.base_number.specs.Number.{int_arg, length_of}
 use Rattle.resp_spec.specs.declared.Header.{Header}
 use Rattle.resp_spec.specs.declared.Header.TheVariants.{Multibulk, Bulk}
 use Rattle.resp_spec.specs.declared.Fault.TheVariants.{NotText}
 use Rattle.resp_spec.specs.Reply.{Reply, Items, Simple, Error, Integer, BulkString, Nil, NilArray, Array, no_more, item, head, count_items, encode, depth, depth_of}
-use Rattle.resp_spec.specs.Request.{Line, line, unfinished, too_long, feed_at, without_cr, line_at, line_of, most_line, limit_of, span, wrong, header_within, header_of, begins_cr_lf}
+use Rattle.resp_spec.specs.Request.{Line, line, unfinished, too_long, feed_at, without_cr, line_at, line_of, most_line, limit_of, span, header_within, header_of, begins_cr_lf}
 use Rattle.resp_spec.specs.Utf8.{is_utf8}
 use Rattle.reply_item.specs.declared.Item.{Item}
 use Rattle.reply_item.specs.declared.Item.TheVariants.{SimpleText, ErrorText, WholeNumber, BulkText, NoBulk, NoArray, ArrayOf}
@@ -34,6 +30,8 @@ use Rattle.reply_reader.specs.Written.{Limited, AllLimited, longest_read, Told, 
 use Rattle.reply_reader.proofs.Extending.{WhenWhole, of_wait, of_fault, of_number, of_whole, when_is, with_when, placed_when, followed_when, whole_inside}
 use Rattle.reply_reader.proofs.InOrder.{cr_shorter, whole_parts}
 use Rattle.reply_reader.proofs.Tables.{items_told_lem, items_many}
+use Rattle.std.specs.Prelude.{ℤ}
+use Rattle.std.specs.Prelude.{Err}
 
 -- AN ITEM that is no array tells a reply, at every depth
 record Leaf (input : Bytes) (i : Item) : Type 0 where
@@ -88,14 +86,14 @@ header_sized : (h : Header) (start : ℕ) (text : Bytes) → Sized h (counted_si
 unfolding header_of header_within counted_size
 header_sized h start text = go (is_utf8 text) (length_of text)
   where
-    within : (n : ℕ) (b : Bool) → leb n (limit_of h) ≡ b → Sized h (counted_size (header_within h (span start (length text)) (Value n)))
+    within : (n : ℕ) (b : Bool) → leb n (limit_of h) ≡ b → Sized h (counted_size (header_within h (span start (length text)) (Some n)))
     within n true e = rw e (sized_of (leb-true n (limit_of h) e))
     within n false e = rw e sized_none
 
-    go : (b : Bool) (l : Length) → Sized h (counted_size (cond b (header_within h (span start (length text)) l) (wrong (NotText h))))
+    go : (b : Bool) (l : Option ℕ) → Sized h (counted_size (cond b (header_within h (span start (length text)) l) (Err (NotText h))))
     go false l = sized_none
-    go true NoLength = sized_none
-    go true (Value n) = within n (leb n (limit_of h)) refl
+    go true None = sized_none
+    go true (Some n) = within n (leb n (limit_of h)) refl
 
 reply_sized : (h : Header) (text : Bytes) → Sized h (reply_size h text)
 unfolding reply_size
@@ -115,10 +113,10 @@ data Says (input : Bytes) : ItemLine → Type 0 where
   says_items : {count : ℕ} → count ≤ limit_of Multibulk → Says input (ItemsFollow count)
 
 module _ (input : Bytes) where
-  number_says : (n : Number) → Says input (number_line n)
+  number_says : (n : Option ℤ) → Says input (number_line n)
   unfolding number_line
-  number_says Bad = says_wrong
-  number_says (Int z) = says_item (number_leaf input (word_of z))
+  number_says None = says_wrong
+  number_says (Some z) = says_item (number_leaf input (word_of z))
 
   bulk_says : {n : Size} → Sized Bulk n → Says input (bulk_line n)
   unfolding bulk_line
@@ -164,8 +162,8 @@ line_short s = go (feed_at s)
     found n false e = tt
 
     go : (o : Option ℕ) → Short (line_at o s)
-    go none = ending (leb (length s) most_line)
-    go (some n) = found n (leb n most_line) refl
+    go None = ending (leb (length s) most_line)
+    go (Some n) = found n (leb n most_line) refl
 
 -- THE ITEMS OF A READING tell a reply, whatever stands behind them; n items stand before them
 record Tells (d : ℕ) (input : Bytes) (places n : ℕ) (is : List Item) : Type 0 where

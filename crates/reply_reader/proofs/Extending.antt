@@ -2,7 +2,7 @@
 use mathlib.Core.Path.{◌≡◌, refl, sym, ap, subst, ◌∙◌}
 use mathlib.Core.Bool.{Bool, true, false, cond}
 use mathlib.Core.List.{List, [], ◌∷◌, ◌++◌, append-nil}
-use mathlib.Core.Option.{Option, none, some, map}
+use Rattle.std.specs.Prelude.{Option, None, Some, option_map}
 use Prim.Native.Nat.{ℕ, zero, suc, ◌+◌, ◌-◌, ◌≤◌, ◌<◌}
 use native.Mathlib.Omega.{arith}
 use lib.Dec.{eqb, leb, ltb}
@@ -23,7 +23,7 @@ use Rattle.reply_reader.proofs.ReadBack.{reply_back}
 
 -- THE LF. It is the first byte, or the LF of the others
 module _ (b : ℕ) (s : Bytes) where
-  feed_cases : {A : Type 0} (o : Option ℕ) → feed_at (b ∷ s) ≡ o → (b ≡ 10 → o ≡ some 0 → A) → ((b ≡ 10 → ⊥) → o ≡ map suc (feed_at s) → A) → A
+  feed_cases : {A : Type 0} (o : Option ℕ) → feed_at (b ∷ s) ≡ o → (b ≡ 10 → o ≡ Some 0 → A) → ((b ≡ 10 → ⊥) → o ≡ option_map suc (feed_at s) → A) → A
   feed_cases {A} o e first later = go (eqb b 10) refl
     where
       go : (t : Bool) → eqb b 10 ≡ t → A
@@ -31,38 +31,38 @@ module _ (b : ℕ) (s : Bytes) where
       go false is = later (eqb-false b 10 is) (sym e ∙ feed_later b s (eqb-false b 10 is))
 
 -- where more bytes follow, one that is there stays
-feed_kept : (s t : Bytes) (n : ℕ) → feed_at s ≡ some n → feed_at (s ++ t) ≡ some n
+feed_kept : (s t : Bytes) (n : ℕ) → feed_at s ≡ Some n → feed_at (s ++ t) ≡ Some n
 unfolding feed_at
 feed_kept [] t n e = let z : ◌≡◌ {A = ℕ} 0 1 = cc in absurd (omega arith)
-feed_kept (b ∷ s) t n e = feed_cases b s (some n) e (λ is found. feed_first b (s ++ t) is ∙ sym found) (λ other found. feed_later b (s ++ t) other ∙ go (feed_at s) refl (feed_kept s t) found)
+feed_kept (b ∷ s) t n e = feed_cases b s (Some n) e (λ is found. feed_first b (s ++ t) is ∙ sym found) (λ other found. feed_later b (s ++ t) other ∙ go (feed_at s) refl (feed_kept s t) found)
   where
-    go : (o : Option ℕ) → feed_at s ≡ o → ((m : ℕ) → feed_at s ≡ some m → feed_at (s ++ t) ≡ some m) → some n ≡ map suc (feed_at s) → map suc (feed_at (s ++ t)) ≡ some n
-    go none o again found = let z : ◌≡◌ {A = ℕ} 0 1 = cc in absurd (omega arith)
-    go (some m) o again found = ap (map suc) (again m o) ∙ sym (found ∙ ap (map suc) o)
+    go : (o : Option ℕ) → feed_at s ≡ o → ((m : ℕ) → feed_at s ≡ Some m → feed_at (s ++ t) ≡ Some m) → Some n ≡ option_map suc (feed_at s) → option_map suc (feed_at (s ++ t)) ≡ Some n
+    go None o again found = let z : ◌≡◌ {A = ℕ} 0 1 = cc in absurd (omega arith)
+    go (Some m) o again found = ap (option_map suc) (again m o) ∙ sym (found ∙ ap (option_map suc) o)
 
-feed_inside : (s : Bytes) (n : ℕ) → feed_at s ≡ some n → n < length s
+feed_inside : (s : Bytes) (n : ℕ) → feed_at s ≡ Some n → n < length s
 unfolding feed_at
 feed_inside [] n e = let z : ◌≡◌ {A = ℕ} 0 1 = cc in absurd (omega arith)
-feed_inside (b ∷ s) n e = feed_cases b s (some n) e (λ is found. let z : n ≡ 0 = cc in omega arith) (λ other found. go (feed_at s) refl (feed_inside s) found)
+feed_inside (b ∷ s) n e = feed_cases b s (Some n) e (λ is found. let z : n ≡ 0 = cc in omega arith) (λ other found. go (feed_at s) refl (feed_inside s) found)
   where
-    go : (o : Option ℕ) → feed_at s ≡ o → ((m : ℕ) → feed_at s ≡ some m → m < length s) → some n ≡ map suc (feed_at s) → n < suc (length s)
-    go none o again found = let z : ◌≡◌ {A = ℕ} 0 1 = cc in absurd (omega arith)
-    go (some m) o again found =
-        let both : some n ≡ some (suc m) = found ∙ ap (map suc) o in
+    go : (o : Option ℕ) → feed_at s ≡ o → ((m : ℕ) → feed_at s ≡ Some m → m < length s) → Some n ≡ option_map suc (feed_at s) → n < suc (length s)
+    go None o again found = let z : ◌≡◌ {A = ℕ} 0 1 = cc in absurd (omega arith)
+    go (Some m) o again found =
+        let both : Some n ≡ Some (suc m) = found ∙ ap (option_map suc) o in
         let z : n ≡ suc m = cc in
         let less : m < length s = again m o in
         omega arith
 
 -- and where none is there, one that follows stands behind all of them
-feed_behind : (s t : Bytes) (m : ℕ) → feed_at s ≡ none → feed_at (s ++ t) ≡ some m → length s ≤ m
+feed_behind : (s t : Bytes) (m : ℕ) → feed_at s ≡ None → feed_at (s ++ t) ≡ Some m → length s ≤ m
 feed_behind [] t m e f = omega arith
-feed_behind (b ∷ s) t m e f = feed_cases b s none e (λ is found. let z : ◌≡◌ {A = ℕ} 0 1 = cc in absurd (omega arith)) (λ other found. go (feed_at s) refl (feed_at (s ++ t)) refl (feed_behind s t) found (sym f ∙ feed_later b (s ++ t) other))
+feed_behind (b ∷ s) t m e f = feed_cases b s None e (λ is found. let z : ◌≡◌ {A = ℕ} 0 1 = cc in absurd (omega arith)) (λ other found. go (feed_at s) refl (feed_at (s ++ t)) refl (feed_behind s t) found (sym f ∙ feed_later b (s ++ t) other))
   where
-    go : (o : Option ℕ) → feed_at s ≡ o → (p : Option ℕ) → feed_at (s ++ t) ≡ p → ((k : ℕ) → feed_at s ≡ none → feed_at (s ++ t) ≡ some k → length s ≤ k) → none ≡ map suc (feed_at s) → some m ≡ map suc (feed_at (s ++ t)) → suc (length s) ≤ m
-    go (some k) o p q again found later = let none_is : none ≡ some (suc k) = found ∙ ap (map suc) o in let z : ◌≡◌ {A = ℕ} 0 1 = cc in absurd (omega arith)
-    go none o none q again found later = let none_is : some m ≡ none = later ∙ ap (map suc) q in let z : ◌≡◌ {A = ℕ} 0 1 = cc in absurd (omega arith)
-    go none o (some k) q again found later =
-        let both : some m ≡ some (suc k) = later ∙ ap (map suc) q in
+    go : (o : Option ℕ) → feed_at s ≡ o → (p : Option ℕ) → feed_at (s ++ t) ≡ p → ((k : ℕ) → feed_at s ≡ None → feed_at (s ++ t) ≡ Some k → length s ≤ k) → None ≡ option_map suc (feed_at s) → Some m ≡ option_map suc (feed_at (s ++ t)) → suc (length s) ≤ m
+    go (Some k) o p q again found later = let none_is : None ≡ Some (suc k) = found ∙ ap (option_map suc) o in let z : ◌≡◌ {A = ℕ} 0 1 = cc in absurd (omega arith)
+    go None o None q again found later = let none_is : Some m ≡ None = later ∙ ap (option_map suc) q in let z : ◌≡◌ {A = ℕ} 0 1 = cc in absurd (omega arith)
+    go None o (Some k) q again found later =
+        let both : Some m ≡ Some (suc k) = later ∙ ap (option_map suc) q in
         let z : m ≡ suc k = cc in
         let less : length s ≤ k = again k o q in
         omega arith
@@ -72,25 +72,25 @@ data LineKept : Line → Line → Type 0 where
   unended : {after : Line} → LineKept unfinished after
   line_same : {l : Line} → LineKept l l
 
-line_far : (s t : Bytes) → feed_at s ≡ none → most_line < length s → line_of (s ++ t) ≡ too_long
+line_far : (s t : Bytes) → feed_at s ≡ None → most_line < length s → line_of (s ++ t) ≡ too_long
 unfolding line_of line_at
 line_far s t e far = go (feed_at (s ++ t)) refl
   where
     go : (o : Option ℕ) → feed_at (s ++ t) ≡ o → line_of (s ++ t) ≡ too_long
-    go none o = let more : most_line < length (s ++ t) = omega (arith, length-append s t) in rw (o, lt-leb (length (s ++ t)) most_line more) refl
-    go (some m) o = let later : most_line < m = omega (arith, feed_behind s t m e o) in rw (o, lt-leb m most_line later) refl
+    go None o = let more : most_line < length (s ++ t) = omega (arith, length-append s t) in rw (o, lt-leb (length (s ++ t)) most_line more) refl
+    go (Some m) o = let later : most_line < m = omega (arith, feed_behind s t m e o) in rw (o, lt-leb m most_line later) refl
 
 line_kept : (s t : Bytes) → LineKept (line_of s) (line_of (s ++ t))
 unfolding line_of line_at
 line_kept s t = go (feed_at s) refl
   where
-    short : (b : Bool) → leb (length s) most_line ≡ b → feed_at s ≡ none → LineKept (line_of s) (line_of (s ++ t))
+    short : (b : Bool) → leb (length s) most_line ≡ b → feed_at s ≡ None → LineKept (line_of s) (line_of (s ++ t))
     short true near o = rw (o, near) unended
     short false far o = rw (line_far s t o (leb-false (length s) most_line far), o, far) line_same
 
     go : (o : Option ℕ) → feed_at s ≡ o → LineKept (line_of s) (line_of (s ++ t))
-    go none o = short (leb (length s) most_line) refl o
-    go (some n) o = let inside : n ≤ length s = omega (arith, feed_inside s n o) in rw (o, feed_kept s t n o, take-append-le n s t inside) line_same
+    go None o = short (leb (length s) most_line) refl o
+    go (Some n) o = let inside : n ≤ length s = omega (arith, feed_inside s n o) in rw (o, feed_kept s t n o, take-append-le n s t inside) line_same
 
 -- what stands behind `at`, and more bytes behind that
 drop_append : (at : ℕ) (s t : Bytes) → drop at (s ++ t) ≡ drop at s ++ drop (at - length s) t
@@ -260,13 +260,13 @@ line_lies s = go (feed_at s) refl
     short true = tt
     short false = tt
 
-    found : (b : Bool) (n : ℕ) → feed_at s ≡ some n → LineLies (length s) (cond b (line (without_cr (take n s)) (suc n)) too_long)
+    found : (b : Bool) (n : ℕ) → feed_at s ≡ Some n → LineLies (length s) (cond b (line (without_cr (take n s)) (suc n)) too_long)
     found true n o = record { after = omega arith; inside = omega (arith, feed_inside s n o) }
     found false n o = tt
 
     go : (o : Option ℕ) → feed_at s ≡ o → LineLies (length s) (line_at o s)
-    go none o = short (leb (length s) most_line)
-    go (some n) o = found (leb n most_line) n o
+    go None o = short (leb (length s) most_line)
+    go (Some n) o = found (leb n most_line) n o
 
 body_ends : (from at start size : ℕ) (input : Bytes) → from ≤ start → Ends from (length input) (body_of at start size (drop start input))
 unfolding body_of

@@ -2,14 +2,12 @@
 use mathlib.Core.Path.{◌≡◌, subst}
 use mathlib.Core.Bool.{Bool, true, false, cond}
 use mathlib.Core.List.{List, [], ◌∷◌, ◌++◌}
-use mathlib.Core.Option.{Option, none, some}
+use Rattle.std.specs.Prelude.{Option, None, Some}
 use Prim.Native.Nat.{ℕ, zero, suc, ◌+◌, ◌≤◌, ◌<◌}
 use native.Mathlib.Omega.{arith}
 use lib.Dec.{eqb, leb}
 use lib.ListN.{length, take, drop, length-take}
 use Rattle.base_key.specs.Bytes.{Bytes}
-use Rattle.base_number.specs.declared.Number.{Number}
-use Rattle.base_number.specs.declared.Number.TheVariants.{Int, Bad}
 use Rattle.base_number.specs.Number.{int_arg}
 use Rattle.resp_spec.specs.declared.Header.TheVariants.{Multibulk, Bulk}
 use Rattle.resp_spec.specs.Request.{Line, line, unfinished, too_long, feed_at, without_cr, line_at, line_of, most_line, begins_cr_lf}
@@ -22,6 +20,7 @@ use Rattle.reply_item.specs.declared.ItemLine.TheVariants.{Complete, BulkFollows
 use Rattle.reply_item.specs.Replies.{reply_size, number_line, bulk_line, array_line, item_line_of, ReplyReading, waits, faulty, whole, body_of, Inner, item_of, item_by_line, read_items, nested, too_deep, read_item, most_depth, read_reply}
 use Rattle.reply_reader.specs.Written.{PartsIn}
 use Rattle.reply_reader.proofs.Extending.{WhenWhole, of_wait, of_fault, of_number, of_whole, when_is, with_when, placed_when, followed_when}
+use Rattle.std.specs.Prelude.{ℤ}
 
 -- PARTS
 parts_before : (is : List Item) (less from to : ℕ) → less ≤ from → PartsIn from to is → PartsIn less to is
@@ -75,8 +74,8 @@ line_holds s = go (feed_at s)
     found n false = tt
 
     go : (o : Option ℕ) → Holds (line_at o s)
-    go none = ending (leb (length s) most_line)
-    go (some n) = found n (leb n most_line)
+    go None = ending (leb (length s) most_line)
+    go (Some n) = found n (leb n most_line)
 
 -- the part of an item that is complete with its line
 abbrev LinePart : ℕ → ℕ → ItemLine → Type 0
@@ -86,10 +85,10 @@ LinePart at end (BulkFollows size) = Unit {0}
 LinePart at end (ItemsFollow count) = Unit {0}
 
 module _ (at end : ℕ) where
-  number_part : (n : Number) → LinePart at end (number_line n)
+  number_part : (n : Option ℤ) → LinePart at end (number_line n)
   unfolding number_line PartsIn
-  number_part Bad = tt
-  number_part (Int z) = tt
+  number_part None = tt
+  number_part (Some z) = tt
 
   bulk_part : (n : Size) → LinePart at end (bulk_line n)
   unfolding bulk_line PartsIn

@@ -8,7 +8,6 @@ use lib.ListN.{length, take, drop, replicate, length-append, length-drop}
 use lib.Seq.{take_at}
 use Rattle.base_key.specs.Bytes.{Bytes}
 use Rattle.base_writing.proofs.Lent.{rest, with_rest, rest_is, with_rest_is}
-use Rattle.resp_spec.specs.Steps.{Inside}
 use Rattle.reply_item.specs.declared.Item.{Item}
 use Rattle.reply_item.specs.declared.Item.TheVariants.{ArrayOf}
 use Rattle.reply_item.specs.declared.Step.{Step}
@@ -73,9 +72,6 @@ passed_none {input} {entry} depth count first from w =
     }
 
 module _ {input entry table : List ℕ} {depth count first from i n at : ℕ} (g : Passed input entry table depth count first from i n at) where
-  pub passed_inside : Inside input at
-  passed_inside = record { inside = g.inside }
-
   pub passed_all : count ≤ i → ItemsAre (read_items (read_item depth (length entry / 4) input) count first from) input first entry (Whole at n) table
   unfolding read_items with_items
   passed_all h =
@@ -131,23 +127,7 @@ module _ {input entry table : List ℕ} {depth count first from i n at : ℕ} (g
 
     -- an array
     module _ {inner start : ℕ} (e : s ≡ Opens inner start) where
-      pub passed_array_place : PlaceIn table n
-      passed_array_place = record { inside = rw g.size (a.opens inner start e).place }
-
-      pub passed_deep : 1 ≤ depth
-      passed_deep = a.deep inner start e
-
-      -- the depth falls
-      pub passed_falls : {t : ℕ} → depth ≡ t → depth - 1 < t
-      passed_falls is = omega (arith, a.deep inner start e)
-
       module _ {mid : List ℕ} (put : Standing (ArrayOf inner ∷ []) n table mid) where
-        pub passed_items_in : ItemsIn input mid (n + 1) start
-        passed_items_in =
-            let in_place = a.opens inner start e in
-            let sizes : length mid ≡ length entry = standing_length put ∙ g.size in
-            record { places = rw sizes (omega (arith, in_place.place)); inside = in_place.inside }
-
         module _ {r : ReplyRead} {after : List ℕ} (q : ItemsAre (read_items (read_item (depth - 1) (length mid / 4) input) inner (n + 1) start) input (n + 1) mid r after) where
           inside_is : read_items (read_item (depth - 1) (length mid / 4) input) inner (n + 1) start ≡ deeper depth (length entry / 4) input inner (suc n) start
           unfolding deeper
@@ -166,24 +146,15 @@ module _ {input entry table : List ℕ} {depth count first from i n at : ℕ} (g
               ∙ alone
 
           -- an answer that is not whole is handed up as it is
-          handed_up : ((end all : ℕ) → r ≡ Whole end all → ⊥) → ItemsAre (read_items (read_item depth (length entry / 4) input) count first from) input first entry r after
+          pub passed_array_stops : ((end all : ℕ) → r ≡ Whole end all → ⊥) → ItemsAre (read_items (read_item depth (length entry / 4) input) count first from) input first entry r after
           unfolding with_items followed
-          handed_up never = go (read_items (read_item (depth - 1) (length mid / 4) input) inner (n + 1) start) refl q.answer
+          passed_array_stops never = go (read_items (read_item (depth - 1) (length mid / 4) input) inner (n + 1) start) refl q.answer
             where
               go : (p : ReplyReading) → read_items (read_item (depth - 1) (length mid / 4) input) inner (n + 1) start ≡ p → r ≡ answer_from (n + 1) p → ItemsAre (read_items (read_item depth (length entry / 4) input) count first from) input first entry r after
               go waits is b = none_are waits (stops waits is refl refl) b (λ js end v. let z : ◌≡◌ {A = ℕ} 0 1 = cc in omega arith)
               go (faulty o) is b = none_are (faulty o) (stops (faulty o) is refl refl) b (λ js end v. let z : ◌≡◌ {A = ℕ} 0 1 = cc in omega arith)
               go (returns k) is b = none_are (returns k) (stops (returns k) is refl refl) b (λ js end v. let z : ◌≡◌ {A = ℕ} 0 1 = cc in omega arith)
               go (whole js end) is b = absurd (never end (n + 1 + length js) b)
-
-          pub passed_array_wait : r ≡ Wait → ItemsAre (read_items (read_item depth (length entry / 4) input) count first from) input first entry Wait after
-          passed_array_wait w = rw w at (handed_up (λ end all e. let z : ◌≡◌ {A = ℕ} 0 1 = cc in omega arith))
-
-          pub passed_array_fault : {offset : ℕ} → r ≡ Fault offset → ItemsAre (read_items (read_item depth (length entry / 4) input) count first from) input first entry (Fault offset) after
-          passed_array_fault w = rw w at (handed_up (λ end all e. let z : ◌≡◌ {A = ℕ} 0 1 = cc in omega arith))
-
-          pub passed_array_number : {number : ℕ} → r ≡ Returned number → ItemsAre (read_items (read_item depth (length entry / 4) input) count first from) input first entry (Returned number) after
-          passed_array_number w = rw w at (handed_up (λ end all e. let z : ◌≡◌ {A = ℕ} 0 1 = cc in omega arith))
 
           pub passed_array_whole : {end all : ℕ} → r ≡ Whole end all → Passed input entry after depth count first from (i + 1) all end
           unfolding with_items followed
@@ -233,26 +204,6 @@ answer_first waits = refl
 answer_first (faulty o) = refl
 answer_first (returns k) = refl
 answer_first (whole is end) = ap (Whole end) (omega arith)
-
-pub reply_in : (input : Bytes) (table : List ℕ) → ItemsIn input table 0 0
-reply_in input table = record { places = omega arith; inside = omega arith }
-
--- the count of an answer
-pub count_wait : {r : ReplyRead} → r ≡ Wait → 0 ≡ item_count r
-unfolding item_count
-count_wait e = rw e refl
-
-pub count_fault : {r : ReplyRead} {at : ℕ} → r ≡ Fault at → 0 ≡ item_count r
-unfolding item_count
-count_fault e = rw e refl
-
-pub count_number : {r : ReplyRead} {k : ℕ} → r ≡ Returned k → 0 ≡ item_count r
-unfolding item_count
-count_number e = rw e refl
-
-pub count_whole : {r : ReplyRead} {end n : ℕ} → r ≡ Whole end n → n ≡ item_count r
-unfolding item_count
-count_whole e = rw e refl
 
 module _ {input entry : List ℕ} {r : ReplyRead} {mid : List ℕ} (q : ItemsAre (read_items (read_item most_depth (length entry / 4) input) 1 0 0) input 0 entry r mid) (kept : length mid ≡ length entry) where
   reading : read_items (read_item most_depth (length entry / 4) input) 1 0 0 ≡ read_reply (length entry / 4) input

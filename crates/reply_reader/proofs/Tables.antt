@@ -1,10 +1,11 @@
 -- The laws of the lent table: items put one behind the other. Assumes nothing.
 use mathlib.Core.Path.{◌≡◌, refl, sym, ap, ◌∙◌}
 use mathlib.Core.List.{List, [], ◌∷◌, ◌++◌, append_assoc, append-nil}
-use Prim.Native.Nat.{ℕ, zero, suc, ◌+◌, ◌*◌, ◌/◌, ◌≤◌}
+use Prim.Native.Nat.{ℕ, zero, suc, ◌+◌, ◌*◌, ◌-◌, ◌/◌, ◌≤◌}
 use native.Mathlib.Omega.{arith}
-use lib.ListN.{length, take, drop, set, length-append, length-drop, take-append-drop}
-use lib.Seq.{sets, sets-eq, length-take-le, take_at, drop-append-add, drop-drop}
+use lib.ListN.{length, take, drop, length-append, length-drop, take-append-drop}
+use borrow.Rule.Slice.PartMut.{put_mid, post_of, Post-is}
+use lib.Seq.{length-take-le, take_at, drop-append-add, drop-drop}
 use Rattle.reply_item.specs.declared.Item.{Item}
 use Rattle.reply_item.specs.declared.Item.TheVariants.{SimpleText, ErrorText, WholeNumber, BulkText, NoBulk, NoArray, ArrayOf}
 use Rattle.reply_item.specs.Replies.{item_words, words_of}
@@ -54,35 +55,6 @@ unfolding items_told
 items_many zero words = refl
 items_many (suc n) words = ap suc (items_many n (drop 4 words))
 
--- the words that the code makes of an item
-pub words_simple : {i : Item} {start len : ℕ} → i ≡ SimpleText start len → 1 ∷ start ∷ len ∷ 0 ∷ [] ≡ item_words i
-unfolding item_words
-words_simple e = rw e refl
-
-pub words_error : {i : Item} {start len : ℕ} → i ≡ ErrorText start len → 2 ∷ start ∷ len ∷ 0 ∷ [] ≡ item_words i
-unfolding item_words
-words_error e = rw e refl
-
-pub words_number : {i : Item} {word : ℕ} → i ≡ WholeNumber word → 3 ∷ 0 ∷ 0 ∷ word ∷ [] ≡ item_words i
-unfolding item_words
-words_number e = rw e refl
-
-pub words_bulk : {i : Item} {start len : ℕ} → i ≡ BulkText start len → 4 ∷ start ∷ len ∷ 0 ∷ [] ≡ item_words i
-unfolding item_words
-words_bulk e = rw e refl
-
-pub words_no_bulk : {i : Item} → i ≡ NoBulk → 5 ∷ 0 ∷ 0 ∷ 0 ∷ [] ≡ item_words i
-unfolding item_words
-words_no_bulk e = rw e refl
-
-pub words_no_array : {i : Item} → i ≡ NoArray → 6 ∷ 0 ∷ 0 ∷ 0 ∷ [] ≡ item_words i
-unfolding item_words
-words_no_array e = rw e refl
-
-pub words_array : {i : Item} {count : ℕ} → i ≡ ArrayOf count → 7 ∷ 0 ∷ 0 ∷ count ∷ [] ≡ item_words i
-unfolding item_words
-words_array e = rw e refl
-
 -- ITEMS IN THEIR PLACES
 pub standing_none : (n : ℕ) (entry : List ℕ) → n ≤ length entry / 4 → Standing [] n entry entry
 unfolding words_of
@@ -121,21 +93,12 @@ module _ {is : List Item} {n : ℕ} {entry mid : List ℕ} (s : Standing is n en
             ∙ ap (λ (l : List ℕ). take (4 * n) entry ++ l) (sym (append_assoc (words_of is) (words_of js) (drop (4 * (n + length (is ++ js))) entry)) ∙ ap (λ (l : List ℕ). l ++ drop (4 * (n + length (is ++ js))) entry) (sym (words_append is js)));
       }
 
--- four stores
-pub standing_one : (i : Item) (n kind start len value : ℕ) (entry : List ℕ) → PlaceIn entry n → kind ∷ start ∷ len ∷ value ∷ [] ≡ item_words i → Standing (i ∷ []) n entry (set (set (set (set entry (4 * n) kind) (4 * n + 1) start) (4 * n + 2) len) (4 * n + 3) value)
+-- an item copied into its place
+pub standing_one : {i : Item} {n : ℕ} {words part entry : List ℕ} → PlaceIn entry n → words ≡ item_words i → part ≡ words → Standing (i ∷ []) n entry (put_mid (4 * n) (4 * n + 4 - 4 * n) entry part)
 unfolding words_of
-standing_one i n kind start len value entry p e =
-    let one : 4 * n + 1 ≡ suc (4 * n) = omega arith in
-    let two : 4 * n + 2 ≡ suc (suc (4 * n)) = omega arith in
-    let three : 4 * n + 3 ≡ suc (suc (suc (4 * n))) = omega arith in
-    let stores : set (set (set (set entry (4 * n) kind) (4 * n + 1) start) (4 * n + 2) len) (4 * n + 3) value ≡ sets entry (4 * n) (kind ∷ start ∷ len ∷ value ∷ []) = λ z. set (set (set (set entry (4 * n) kind) (one z) start) (two z) len) (three z) value in
+standing_one {i} {n} {words} {part} {entry} p e f =
     let behind : 4 * n + 4 ≡ 4 * (n + 1) = omega arith in
     record {
       room = omega (arith, p.inside);
-      same =
-          stores
-          ∙ sets-eq (kind ∷ start ∷ len ∷ value ∷ []) entry (4 * n) (omega (arith, p.inside))
-          ∙ append_assoc (take (4 * n) entry) (kind ∷ start ∷ len ∷ value ∷ []) (drop (4 * n + 4) entry)
-          ∙ (λ z. take (4 * n) entry ++ (e z ++ drop (behind z) entry))
-          ∙ ap (λ (l : List ℕ). take (4 * n) entry ++ (l ++ drop (4 * (n + 1)) entry)) (sym (append-nil (item_words i)));
+      same = ap (λ (l : List ℕ). take (4 * n) entry ++ (l ++ post_of (4 * n) (4 * n + 4 - 4 * n) entry)) (f ∙ e ∙ sym (append-nil (item_words i))) ∙ rw (Post-is (4 * n) (4 * n + 4) entry (omega arith), behind) refl;
     }

@@ -2,8 +2,7 @@
 use mathlib.Core.Path.{◌≡◌, refl, sym, ap, ◌∙◌}
 use mathlib.Core.Bool.{Bool, true, false, cond, ◌&&◌, ◌||◌}
 use mathlib.Core.List.{[], ◌∷◌, ◌++◌, map, append_assoc}
-use mathlib.Core.Option
-use mathlib.Core.Option.{Option, none, some}
+use Rattle.std.specs.Prelude.{Option, None, Some, option_map}
 use Prim.Native.Nat.{ℕ, suc, ◌+◌, ◌*◌, ◌-◌, ◌^◌, ◌≤◌, ◌<◌}
 use native.Mathlib.Omega.{arith}
 use lib.Dec.{eqb, leb}
@@ -18,12 +17,13 @@ use Rattle.base_number.proofs.RoundTrip.{reads, length_back}
 use Rattle.resp_spec.specs.declared.Header.{Header}
 use Rattle.resp_spec.specs.Utf8.{between, leads, decode_byte, utf8_from, is_utf8}
 use Rattle.resp_spec.specs.Reply.{clean}
-use Rattle.resp_spec.specs.Request.{most_line, line, line_of, line_at, feed_at, without_cr, limit_of, counts, header_within, header_of}
+use Rattle.resp_spec.specs.Request.{most_line, line, line_of, line_at, feed_at, without_cr, limit_of, header_within, header_of}
 use Rattle.reply_item.specs.declared.Size.TheVariants.{Of}
 use Rattle.reply_item.specs.Replies.{counted_size, reply_size}
+use Rattle.std.specs.Prelude.{Ok}
 
 -- LINES
-feed_cons : (b : ℕ) (s : Bytes) → (b ≡ 10 → ⊥) → feed_at (b ∷ s) ≡ Option.map suc (feed_at s)
+feed_cons : (b : ℕ) (s : Bytes) → (b ≡ 10 → ⊥) → feed_at (b ∷ s) ≡ option_map suc (feed_at s)
 unfolding feed_at
 feed_cons b s e = rw (ne_eqb b 10 e, feed_at) refl
 
@@ -36,10 +36,10 @@ pub free_append : {s t : Bytes} → Free s → Free t → Free (s ++ t)
 free_append free_none g = g
 free_append (free_more e f) g = free_more e (free_append f g)
 
-feed_behind : {s : Bytes} (rest : Bytes) → Free s → feed_at (s ++ 10 ∷ rest) ≡ some (length s)
+feed_behind : {s : Bytes} (rest : Bytes) → Free s → feed_at (s ++ 10 ∷ rest) ≡ Some (length s)
 unfolding feed_at
 feed_behind rest free_none = refl
-feed_behind rest (free_more {b} {s} e f) = feed_cons b (s ++ 10 ∷ rest) e ∙ ap (Option.map suc) (feed_behind rest f)
+feed_behind rest (free_more {b} {s} e f) = feed_cons b (s ++ 10 ∷ rest) e ∙ ap (option_map suc) (feed_behind rest f)
 
 cr_dropped : (s : Bytes) → without_cr (s ++ 13 ∷ []) ≡ s
 unfolding without_cr
@@ -53,7 +53,7 @@ unfolding line_of line_at
 line_of_lem text rest f h =
     let parts : text ++ 13 ∷ 10 ∷ rest ≡ (text ++ 13 ∷ []) ++ 10 ∷ rest = sym (append_assoc text (13 ∷ []) (10 ∷ rest)) in
     let size : length (text ++ 13 ∷ []) ≡ length text + 1 = length-append text (13 ∷ []) in
-    let feed : feed_at (text ++ 13 ∷ 10 ∷ rest) ≡ some (length text + 1) = ap feed_at parts ∙ feed_behind rest (free_append f (free_more (λ e. omega arith) free_none)) ∙ ap {B = Option ℕ} some size in
+    let feed : feed_at (text ++ 13 ∷ 10 ∷ rest) ≡ Some (length text + 1) = ap feed_at parts ∙ feed_behind rest (free_append f (free_more (λ e. omega arith) free_none)) ∙ ap {B = Option ℕ} Some size in
     let front : take (length text + 1) (text ++ 13 ∷ 10 ∷ rest) ≡ text ++ 13 ∷ [] = ap (take (length text + 1)) parts ∙ take_at (text ++ 13 ∷ []) (10 ∷ rest) (length text + 1) size in
     let used : suc (length text + 1) ≡ length text + 2 = omega arith in
     rw (feed, le-leb (length text + 1) most_line h, front, cr_dropped text, used) refl
@@ -76,12 +76,12 @@ pub data Digital : Bytes → Type 0 where
   digital_none : Digital []
   digital_more : {b : ℕ} {s : Bytes} → 48 ≤ b → b ≤ 57 → Digital s → Digital (b ∷ s)
 
-digital_value : (text : Bytes) (v n : ℕ) → value_from v text ≡ some n → Digital text
+digital_value : (text : Bytes) (v n : ℕ) → value_from v text ≡ Some n → Digital text
 unfolding value_from
 digital_value [] v n e = digital_none
 digital_value (b ∷ text) v n e = go (leb 48 b) (leb b 57) refl refl (digital_value text (v * 10 + (b - 48)) n) e
   where
-    go : (low high : Bool) → leb 48 b ≡ low → leb b 57 ≡ high → (value_from (v * 10 + (b - 48)) text ≡ some n → Digital text) → cond (low && high) (value_from (v * 10 + (b - 48)) text) none ≡ some n → Digital (b ∷ text)
+    go : (low high : Bool) → leb 48 b ≡ low → leb b 57 ≡ high → (value_from (v * 10 + (b - 48)) text ≡ Some n → Digital text) → cond (low && high) (value_from (v * 10 + (b - 48)) text) None ≡ Some n → Digital (b ∷ text)
     go true true l u again is = digital_more (leb-true 48 b l) (leb-true b 57 u) (again is)
     go true false l u again is = let z : ◌≡◌ {A = ℕ} 0 1 = cc in absurd (omega arith)
     go false high l u again is = let z : ◌≡◌ {A = ℕ} 0 1 = cc in absurd (omega arith)
@@ -107,7 +107,7 @@ utf8_digital digital_none = refl
 utf8_digital (digital_more {b} {s} low high d) = let small : b ≤ 127 = omega arith in rw (le-leb b 127 small) (utf8_digital d)
 
 -- A LENGTH OR A COUNT
-header_back : (kind : Header) (n : ℕ) → n ≤ limit_of kind → n < 2 ^ 64 → header_of kind 0 (digits n) ≡ counts n
+header_back : (kind : Header) (n : ℕ) → n ≤ limit_of kind → n < 2 ^ 64 → header_of kind 0 (digits n) ≡ Ok n
 unfolding header_of header_within is_utf8
 header_back kind n h small = rw (utf8_digital (digital_digits n), length_back n small, le-leb n (limit_of kind) h) refl
 

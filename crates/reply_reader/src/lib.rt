@@ -28,8 +28,7 @@ fn read_items(
     let places = items.len() / table::ITEM_WORDS;
     let mut n = first;
     let mut at = from;
-    let mut i = 0;
-    while i < count {
+    for _ in 0..count {
         match next::step(input, places, depth, n, at) {
             Step::Wait => return ReplyRead::Wait,
             Step::Fault(offset) => return ReplyRead::Fault(offset),
@@ -38,19 +37,15 @@ fn read_items(
                 table::put_item(items, n, item);
                 n += 1;
                 at = end;
-                i += 1;
             }
             Step::Opens(inner, start) => {
                 table::put_item(items, n, Item::ArrayOf(inner));
                 match read_items(input, items, depth - 1, inner, n + 1, start) {
-                    ReplyRead::Wait => return ReplyRead::Wait,
-                    ReplyRead::Fault(offset) => return ReplyRead::Fault(offset),
-                    ReplyRead::Returned(number) => return ReplyRead::Returned(number),
                     ReplyRead::Whole(end, all) => {
                         n = all;
                         at = end;
-                        i += 1;
                     }
+                    stopped => return stopped,
                 }
             }
         }
@@ -59,24 +54,23 @@ fn read_items(
 }
 
 // The count of items that an answer leaves in the table.
+#[tactic(auto, unfolding(crate::specs::Table::item_count))]
 fn item_count(read: ReplyRead) -> usize
     ensures { result ≡ item_count read }
 {
     match read {
-        ReplyRead::Wait => 0,
-        ReplyRead::Fault(_) => 0,
-        ReplyRead::Returned(_) => 0,
         ReplyRead::Whole(_, count) => count,
+        _ => 0,
     }
 }
 
-// Reads the reply at the front of `input`. Where it is whole, its items stand in the first words of `resp_items`, four for each, in the
+// Reads the reply at the front of `input`. Where it is whole, its items stand in the first words of `items`, four for each, in the
 // order of their first bytes, and the other words are zero. Otherwise all words are zero.
 pub fn read_reply(input: &[u8], items: &mut [u64]) -> ReplyRead
     ensures { ReplyIs input.now items.old result items.new }
 {
     let read = read_items(input, items, MOST_DEPTH, 1, 0, 0);
     let kept = table::ITEM_WORDS * item_count(read);
-    table::clear_words(&mut items[kept..]);
+    items[kept..].fill(0);
     read
 }

@@ -2,7 +2,7 @@
 use mathlib.Core.Path.{◌≡◌, refl, sym, ap, ◌∙◌}
 use mathlib.Core.Bool.{Bool, true, false, cond, ◌||◌}
 use mathlib.Core.List.{[], ◌∷◌, ◌++◌, map, append_assoc}
-use mathlib.Core.Option.{Option, none, some}
+use Rattle.std.specs.Prelude.{Option, None, Some}
 use Prim.Native.Nat.{ℕ, zero, suc, ◌+◌, ◌≤◌}
 use native.Mathlib.Nat.{le-max_left, le-max_right}
 use native.Mathlib.Omega.{arith}
@@ -43,28 +43,28 @@ cut_line text x e = rw e at (cut_clean text x)
 -- NUMBERS, of any size
 -- by the value of the text, or of what follows `-`
 unfoldable any_integer : Option ℕ → Option ℕ → ℤ
-any_integer (some n) below = pos n
-any_integer none none = pos 0
-any_integer none (some zero) = pos 0
-any_integer none (some (suc n)) = negsuc n
+any_integer (Some n) below = pos n
+any_integer None None = pos 0
+any_integer None (Some zero) = pos 0
+any_integer None (Some (suc n)) = negsuc n
 
 integer_back : (z : ℤ) → any_integer (value_of (decimal z)) (value_of (drop 1 (decimal z))) ≡ z
 unfolding decimal any_integer value_of value_from
 integer_back (pos n) = ap (λ (v : Option ℕ). any_integer v (value_of (drop 1 (digits n)))) (value_back n)
-integer_back (negsuc n) = ap (any_integer none) (value_back (suc n))
+integer_back (negsuc n) = ap (any_integer None) (value_back (suc n))
 
 -- REPLIES, by the length or the count, which `-1` is not
 unfoldable any_bulk : Option ℕ → Bytes → Reply × Bytes
-any_bulk none s = (Nil, s)
-any_bulk (some n) s = (BulkString (take n s), drop (n + 2) s)
+any_bulk None s = (Nil, s)
+any_bulk (Some n) s = (BulkString (take n s), drop (n + 2) s)
 
 unfoldable any_items : (Bytes → Reply × Bytes) → ℕ → Bytes → Items × Bytes
 any_items read zero s = (no_more, s)
 any_items read (suc n) s = let r = read s in let rs = any_items read n r.1 in (item r.0 rs.0, rs.1)
 
 unfoldable any_array : (Bytes → Reply × Bytes) → Option ℕ → Bytes → Reply × Bytes
-any_array read none s = (NilArray, s)
-any_array read (some n) s = let rs = any_items read n s in (Array rs.0, rs.1)
+any_array read None s = (NilArray, s)
+any_array read (Some n) s = let rs = any_items read n s in (Array rs.0, rs.1)
 
 -- by the first byte, and its line
 unfoldable any_of_kind : (Bytes → Reply × Bytes) → ℕ → Bytes × Bytes → Reply × Bytes
@@ -85,7 +85,7 @@ read_any (suc d) (b ∷ s) = any_of_kind (read_any d) b (cut s)
 count_line : (n : ℕ) (x : Bytes) → cut (digits n ++ crlf ++ x) ≡ (digits n, x)
 count_line n x = cut_line (digits n) x (digits_clean n)
 
-bulk_back : (text x : Bytes) → any_bulk (some (length text)) (text ++ (crlf ++ x)) ≡ (BulkString text, x)
+bulk_back : (text x : Bytes) → any_bulk (Some (length text)) (text ++ (crlf ++ x)) ≡ (BulkString text, x)
 unfolding any_bulk
 bulk_back text x = λ i. (BulkString (take-append_seam text (crlf ++ x) i), drop-append-add text (crlf ++ x) 2 i)
 

@@ -2,67 +2,40 @@
 use mathlib.Core.Path.{◌≡◌, refl, sym, ap, ◌∙◌}
 use mathlib.Core.Bool.{Bool, true, false, ◌&&◌}
 use mathlib.Core.List.{[], ◌∷◌}
-use Prim.Native.Nat.{ℕ, suc, ◌+◌, ◌-◌, ◌≤◌, ◌<◌}
-use native.Mathlib.Numerals.{add-one}
+use Prim.Native.Nat.{ℕ, ◌+◌, ◌-◌, ◌≤◌, ◌<◌}
 use native.Mathlib.Omega.{arith}
 use lib.Dec.{eqb}
-use lib.ListN.{length, take, drop, get_or, length-drop, drop_of_length-le}
-use lib.Seq.{drop-cons, drop-drop}
+use Rattle.std.specs.List.{starts_with}
+use Rattle.std.proofs.lemmas.Bool.Decides.{nat_tests}
+use lib.ListN.{length, take, drop, get_or, length-drop}
+use lib.Seq.{drop-drop}
+use Rattle.std.proofs.lemmas.List.{take_rest, length-take}
 use borrow.Author.Tests.{eq-eqb, ne_eqb}
-use Rattle.base_key.specs.Bytes.{Bytes, ◌and◌}
-use Rattle.base_key.proofs.Bytes.{and-false}
+use Rattle.base_key.specs.Bytes.{Bytes}
 use Rattle.resp_spec.specs.declared.Header.TheVariants.{Bulk}
 use Rattle.resp_spec.specs.declared.Fault.{Fault}
 use Rattle.resp_spec.specs.declared.Fault.TheVariants.{LineTooLong, NoDollar, NoLineEnd}
 use Rattle.resp_spec.specs.declared.line.Line.{Line as LineAnswer}
 use Rattle.resp_spec.specs.declared.line.Line.TheVariants.{Text, Unfinished, TooLong}
-use Rattle.resp_headers.specs.declared.Count.{Count}
-use Rattle.resp_headers.specs.declared.Count.TheVariants.{Counts, Wrong}
 use Rattle.resp_bulk.specs.declared.Argument.{Argument}
 use Rattle.resp_bulk.specs.declared.Argument.TheVariants.{Unread, Faulty, Part}
 use Rattle.base_writing.proofs.Lent.{rest, rest_is}
-use Rattle.resp_spec.specs.Request.{span, line_of, header_of, Reading, waits, faulty, with_span, begins_cr_lf, bulk_body, argument_line}
+use Rattle.resp_spec.specs.Request.{span, line, line_of, header_of, Reading, waits, faulty, with_span, begins_cr_lf, bulk_body, argument_line}
 use Rattle.resp_spec.specs.Steps.{LineIs, line_of_answer, Next, Inside}
 use Rattle.resp_spec.proofs.Arguments.{body_waits, body_ends, body_other}
-use Rattle.resp_headers.specs.Headers.{counted_of}
-use Rattle.resp_bulk.specs.Arguments.{begins_with, ArgumentIs, argument_at, argument_of_line, argument_of_size, LineFrom}
+use Rattle.resp_bulk.specs.Arguments.{ArgumentIs, argument_at, argument_of_line, argument_of_size, LineFrom}
+use Rattle.std.specs.Prelude.{Result, Ok, Err}
 
--- A FIXED TEXT
--- the first i bytes are the same
-pub record Alike (s text : Bytes) (i : ℕ) : Type 0 where
-  pub same : begins_with s text ≡ begins_with (drop i s) (drop i text)
-
-pub alike_none : (s text : Bytes) → Alike s text 0
-alike_none s text = record { same = refl }
-
-module _ {s text : Bytes} {i : ℕ} (g : Alike s text i) where
-  pub alike_all : length text ≤ i → true ≡ begins_with s text
-  unfolding begins_with
-  alike_all h = sym (g.same ∙ rw (drop_of_length-le text {i = i} h) refl)
-
-  module _ (h : i < length text) where
-    pub alike_short : length s ≤ i → false ≡ begins_with s text
-    unfolding begins_with
-    alike_short l = sym (g.same ∙ rw (drop_of_length-le s {i = i} l, drop-cons text i 0 h) refl)
-
-    pub alike_other : i < length s → (get_or s i 0 ≡ get_or text i 0 → ⊥) → false ≡ begins_with s text
-    unfolding begins_with ◌and◌
-    alike_other l ne = sym (g.same ∙ rw (drop-cons s i 0 l, drop-cons text i 0 h, ne_eqb (get_or s i 0) (get_or text i 0) ne) refl)
-
-    pub alike_more : i < length s → get_or s i 0 ≡ get_or text i 0 → Alike s text (i + 1)
-    unfolding begins_with ◌and◌
-    alike_more l e = record { same = g.same ∙ rw (drop-cons s i 0 l, drop-cons text i 0 h, eq-eqb (get_or s i 0) (get_or text i 0) e, add-one i) refl }
-
-begins_crlf : (s : Bytes) → begins_with s (13 ∷ 10 ∷ []) ≡ begins_cr_lf s
-unfolding begins_with begins_cr_lf ◌and◌
-begins_crlf [] = refl
-begins_crlf (b ∷ []) = and-false (eqb b 13)
-begins_crlf (b ∷ c ∷ s) = go (eqb b 13) (eqb c 10)
+-- CR LF
+starts_crlf : (s : Bytes) → starts_with eqb s (13 ∷ 10 ∷ []) ≡ begins_cr_lf s
+unfolding begins_cr_lf
+starts_crlf [] = refl
+starts_crlf (b ∷ []) = go (eqb 13 b)
   where
-    go : (t u : Bool) → (t and u and true) ≡ (t && u)
-    go true true = refl
-    go true false = refl
-    go false u = refl
+    go : (t : Bool) → (t && false) ≡ false
+    go true = refl
+    go false = refl
+starts_crlf (b ∷ c ∷ s) = grind (arith, nat_tests)
 
 -- THE BYTES OF AN ARGUMENT
 -- an answer that is no part
@@ -81,12 +54,12 @@ module _ (input : Bytes) (at n : ℕ) (w : Inside input at) where
   unfolding argument_of_size
   body_cut h = is_unread (λ next. body_waits next at n (drop at input) (simp length-drop (omega arith)))
 
-  module _ (two : 2 ≤ length input - at) (enough : n ≤ length input - at - 2) {b : Bool} (is : b ≡ begins_with (rest (at + n) input) (13 ∷ 10 ∷ [])) where
+  module _ (two : 2 ≤ length input - at) (enough : n ≤ length input - at - 2) {b : Bool} (is : b ≡ starts_with eqb (rest (at + n) input) (13 ∷ 10 ∷ [])) where
     long : n + 2 ≤ length (drop at input)
     long = simp length-drop (omega arith)
 
     tested : begins_cr_lf (drop n (drop at input)) ≡ b
-    tested = sym (begins_crlf (drop n (drop at input))) ∙ ap (λ (l : Bytes). begins_with l (13 ∷ 10 ∷ [])) (drop-drop n at input ∙ sym (rest_is (at + n) input)) ∙ sym is
+    tested = sym (starts_crlf (drop n (drop at input))) ∙ ap (λ (l : Bytes). starts_with eqb l (13 ∷ 10 ∷ [])) (drop-drop n at input ∙ sym (rest_is (at + n) input)) ∙ sym is
 
     pub body_part : b ≡ true → ArgumentIs (argument_of_size at n input) input (Part at n)
     unfolding argument_of_size
@@ -101,38 +74,48 @@ module _ (input : Bytes) (at n : ℕ) (w : Inside input at) where
     unfolding argument_of_size
     body_no_end e = is_faulty (λ next. body_other next at n (drop at input) long (tested ∙ e))
 
--- THE LINE OF AN ARGUMENT
+-- THE LINE OF AN ARGUMENT, by its first byte
+module _ (next : Next) (at used : ℕ) (s : Bytes) where
+  dollar_missing : (t : Bytes) → 1 ≤ length t → (get_or t 0 0 ≡ 36 → ⊥) → argument_line next at s (line t used) ≡ faulty (NoDollar (span at 1))
+  unfolding argument_line
+  dollar_missing [] h ne = absurd (omega arith)
+  dollar_missing (c ∷ t) h ne = rw (ne_eqb c 36 ne, argument_line) refl
+
+  dollar_there : (t : Bytes) → 1 ≤ length t → get_or t 0 0 ≡ 36 → argument_line next at s (line t used) ≡ bulk_body next (at + used) (drop used s) (header_of Bulk (at + 1) (take (length t - 1) (drop 1 t)))
+  unfolding argument_line
+  dollar_there [] h e = absurd (omega arith)
+  dollar_there (c ∷ t) h e = rw (eq-eqb c 36 e, take_rest, argument_line) refl
+
 module _ (input : Bytes) (at len used : ℕ) (w : LineFrom input at len used) where
-  pub sized_empty : len ≡ 0 → ArgumentIs (argument_of_line at len used input) input (Faulty (NoDollar (span at 0)))
+  abbrev text : Bytes
+  text = take (at + len - at) (drop at input)
+
+  whole : (next : Next) → argument_of_line at len used input next ≡ argument_line next at (drop at input) (line text used)
+  unfolding argument_of_line
+  whole next = let size : at + len - at ≡ len = omega arith in rw size refl
+
+  pub sized_empty : length text < 1 → ArgumentIs (argument_of_line at len used input) input (Faulty (NoDollar (span at 0)))
   unfolding argument_of_line argument_line
-  sized_empty z = is_faulty (λ next. rw z refl)
+  sized_empty h =
+      let long : length (drop at input) ≡ length input - at = length-drop at input in
+      let size : len ≡ 0 = omega (arith, length-take (at + len - at) (drop at input), w.text, w.inside) in
+      is_faulty (λ next. rw size refl)
 
-  module _ (some_byte : len ≡ 0 → ⊥) where
-    first : take len (drop at input) ≡ get_or input at 0 ∷ take (at + len - (at + 1)) (drop (at + 1) input)
-    first =
-        let size : len ≡ suc (at + len - (at + 1)) = omega arith in
-        let front : drop at input ≡ get_or input at 0 ∷ drop (at + 1) input = drop-cons input at 0 (omega (arith, w.text, w.inside)) ∙ rw add-one refl in
-        ap (λ (k : ℕ). take k (drop at input)) size ∙ ap (take (suc (at + len - (at + 1)))) front
+  module _ (some_byte : 1 ≤ length text) where
+    pub sized_no_dollar : (get_or text 0 0 ≡ 36 → ⊥) → ArgumentIs (argument_of_line at len used input) input (Faulty (NoDollar (span at 1)))
+    sized_no_dollar ne = is_faulty (λ next. whole next ∙ dollar_missing next at used (drop at input) text some_byte ne)
 
-    pub sized_no_dollar : (get_or input at 0 ≡ 36 → ⊥) → ArgumentIs (argument_of_line at len used input) input (Faulty (NoDollar (span at 1)))
-    unfolding argument_of_line argument_line
-    sized_no_dollar ne = is_faulty (λ next. rw (first, ne_eqb (get_or input at 0) 36 ne, argument_line) refl)
+    module _ (dollar : get_or text 0 0 ≡ 36) (r : Result ℕ Fault) (h : r ≡ header_of Bulk (at + 1) (take (length text - 1) (drop 1 text))) where
+      body : (next : Next) → argument_of_line at len used input next ≡ bulk_body next (at + used) (drop (at + used) input) r
+      body next = whole next ∙ dollar_there next at used (drop at input) text some_byte dollar ∙ rw (← h, ← drop-drop used at input) refl
 
-    module _ (dollar : get_or input at 0 ≡ 36) (r : Count) (h : counted_of r ≡ header_of Bulk (at + 1) (take (at + len - (at + 1)) (drop (at + 1) input))) where
-      body : (next : Next) → argument_of_line at len used input next ≡ bulk_body next (at + used) (drop (at + used) input) (counted_of r)
-      unfolding argument_of_line argument_line
-      body next = rw (first, eq-eqb (get_or input at 0) 36 dollar, ← h, ← drop-drop used at input, argument_line) refl
-
-      pub sized_wrong : {f : Fault} → r ≡ Wrong f → ArgumentIs (argument_of_line at len used input) input (Faulty f)
+      pub sized_wrong : {f : Fault} → r ≡ Err f → ArgumentIs (argument_of_line at len used input) input (Faulty f)
       unfolding bulk_body
       sized_wrong e = is_faulty (λ next. body next ∙ rw e refl)
 
-      pub sized_part : {n : ℕ} {a : Argument} → r ≡ Counts n → ArgumentIs (argument_of_size (at + used) n input) input a → ArgumentIs (argument_of_line at len used input) input a
+      pub sized_part : {n : ℕ} {a : Argument} → r ≡ Ok n → ArgumentIs (argument_of_size (at + used) n input) input a → ArgumentIs (argument_of_line at len used input) input a
       unfolding argument_of_size
       sized_part e a = record { same = λ next. body next ∙ rw e (a.same next); inside = a.inside }
-
-  pub body_inside : Inside input (at + used)
-  body_inside = record { inside = w.inside }
 
 -- AN ARGUMENT
 module _ (input : Bytes) (at : ℕ) (w : Inside input at) {r : LineAnswer} (l : LineIs (rest at input) r) where
@@ -146,11 +129,6 @@ module _ (input : Bytes) (at : ℕ) (w : Inside input at) {r : LineAnswer} (l : 
   pub argument_long : r ≡ TooLong → ArgumentIs (argument_at at input) input (Faulty LineTooLong)
   unfolding argument_at argument_line
   argument_long e = is_faulty (λ next. rw (← line_is, e) refl)
-
-  pub argument_line_lem : {len used : ℕ} → r ≡ Text len used → LineFrom input at len used
-  argument_line_lem {len} {used} e =
-      let i = l.inside len used e in
-      record { text = i.text; inside = omega (arith, i.inside, ap length (rest_is at input), length-drop at input, w.inside) }
 
   pub argument_sized : {len used : ℕ} {a : Argument} → r ≡ Text len used → ArgumentIs (argument_of_line at len used input) input a → ArgumentIs (argument_at at input) input a
   unfolding argument_at argument_of_line

@@ -1,10 +1,11 @@
 -- What the steps of reading an argument answer: each code answer is turned into what the definitions of requests say.
 use Rattle.std.specs.Prelude.{◌≡◌, Bool, true, false, [], ◌∷◌, ℕ, ◌+◌, ◌≤◌, ◌<◌, eqb, length, take, drop}
 use Rattle.base_key.specs.Bytes.{Bytes, ◌and◌}
-use Rattle.resp_spec.specs.Request.{line, line_of, counts, Reading, waits, faulty, with_span, span, bulk_body, argument_line}
+use Rattle.resp_spec.specs.Request.{line, line_of, Reading, waits, faulty, with_span, span, bulk_body, argument_line}
 use Rattle.resp_spec.specs.Steps.{Next}
 use Rattle.resp_bulk.specs.declared.Argument.{Argument}
 use Rattle.resp_bulk.specs.declared.Argument.TheVariants.{Unread, Faulty, Part}
+use Rattle.std.specs.Prelude.{Ok}
 
 -- whether a text stands at the front of the bytes
 unfoldable pub begins_with : Bytes → Bytes → Bool
@@ -34,7 +35,7 @@ unfoldable pub argument_of_line : ℕ → ℕ → ℕ → Bytes → Next → Rea
 argument_of_line at len used input next = argument_line next at (drop at input) (line (take len (drop at input)) used)
 
 unfoldable pub argument_of_size : ℕ → ℕ → Bytes → Next → Reading
-argument_of_size at n input next = bulk_body next at (drop at input) (counts n)
+argument_of_size at n input next = bulk_body next at (drop at input) (Ok n)
 
 -- a line that starts at `at`
 pub record LineFrom (input : Bytes) (at len used : ℕ) : Type 0 where

@@ -1,11 +1,9 @@
 // One argument of an array: a line with its length, its bytes, and CR LF.
 #![tactic(auto)]
 
-ghost use Rattle.std.specs.Prelude.{◌≡◌};
 ghost use Rattle.resp_spec.specs.Steps.{Inside};
-ghost use Rattle.resp_bulk.specs.Arguments.{begins_with, ArgumentIs, argument_at, argument_of_line, argument_of_size, LineFrom};
+ghost use Rattle.resp_bulk.specs.Arguments.{ArgumentIs, argument_at, argument_of_line, argument_of_size, LineFrom};
 
-use resp_headers::Count;
 use resp_spec::line::Line;
 use resp_spec::{Fault, Header, Span, line};
 
@@ -15,23 +13,6 @@ pub enum Argument {
     Unread,
     Faulty(Fault),
     Part(usize, usize),
-}
-
-// Whether `text` stands at the front of `s`.
-fn begins_with(s: &[u8], text: &[u8]) -> bool
-    ensures { result ≡ begins_with s.now text.now }
-{
-    let mut i = 0;
-    while i < text.len() {
-        if s.len() <= i {
-            return false;
-        }
-        if s[i] != text[i] {
-            return false;
-        }
-        i += 1;
-    }
-    true
 }
 
 // Reads the n bytes of an argument, from `at` on, and the CR LF behind them.
@@ -47,7 +28,7 @@ pub fn read_body(input: &[u8], at: usize, n: usize) -> Argument
         return Argument::Unread;
     }
     let end = at + n;
-    if begins_with(&input[end..], b"\r\n") {
+    if input[end..].starts_with(b"\r\n") {
         return Argument::Part(at, n);
     }
     Argument::Faulty(Fault::NoLineEnd)
@@ -58,17 +39,13 @@ fn read_sized(input: &[u8], at: usize, len: usize, used: usize) -> Argument
     requires { LineFrom input.now at len used }
     ensures { ArgumentIs (argument_of_line at len used input.now) input.now result }
 {
-    if len == 0 {
-        return Argument::Faulty(Fault::NoDollar(Span { start: at, len: 0 }));
-    }
-    if input[at] != 36 {
-        return Argument::Faulty(Fault::NoDollar(Span { start: at, len: 1 }));
-    }
-    let from = at + 1;
-    let end = at + len;
-    match resp_headers::read_header(Header::Bulk, from, &input[from..end]) {
-        Count::Counts(n) => read_body(input, at + used, n as usize),
-        Count::Wrong(f) => Argument::Faulty(f),
+    match &input[at..at + len] {
+        [] => Argument::Faulty(Fault::NoDollar(Span { start: at, len: 0 })),
+        [b'$', text @ ..] => match resp_headers::read_header(Header::Bulk, at + 1, text) {
+            Ok(n) => read_body(input, at + used, n as usize),
+            Err(f) => Argument::Faulty(f),
+        },
+        _ => Argument::Faulty(Fault::NoDollar(Span { start: at, len: 1 })),
     }
 }
 

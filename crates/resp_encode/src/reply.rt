@@ -4,17 +4,16 @@ ghost use Rattle.base_number.specs.Decimal.{digits};
 ghost use Rattle.resp_spec.specs.Reply.{Integer, BulkString, NilArray, crlf, encode, head};
 
 use base_decimal::digits;
-use base_writing::Put;
 
 // Writes CR LF behind what was put.
-pub fn then_crlf(out: &mut [u8], put: Put) -> Put
+pub fn then_crlf(out: &mut [u8], put: Option<usize>) -> Option<usize>
     ensures { Adds crlf put out.old result out.new }
 {
     base_writing::then_bytes(out, put, b"\r\n")
 }
 
 // A whole number.
-pub fn put_int(out: &mut [u8], z: i64) -> Put
+pub fn put_int(out: &mut [u8], z: i64) -> Option<usize>
     ensures { Puts (encode (Integer z)) out.old result out.new }
 {
     let mark = base_writing::put_byte(out, b':');
@@ -23,7 +22,7 @@ pub fn put_int(out: &mut [u8], z: i64) -> Put
 }
 
 // The line in front of a bulk string (`$`) or an array (`*`), with its count.
-pub fn put_head(out: &mut [u8], kind: u8, count: u64) -> Put
+pub fn put_head(out: &mut [u8], kind: u8, count: u64) -> Option<usize>
     ensures { Puts (head kind count) out.old result out.new }
 {
     let mark = base_writing::put_byte(out, kind);
@@ -32,7 +31,7 @@ pub fn put_head(out: &mut [u8], kind: u8, count: u64) -> Put
 }
 
 // A bulk string.
-pub fn put_bulk(out: &mut [u8], text: &[u8]) -> Put
+pub fn put_bulk(out: &mut [u8], text: &[u8]) -> Option<usize>
     ensures { Puts (encode (BulkString text.now)) out.old result out.new }
 {
     let line = put_head(out, b'$', text.len() as u64);
@@ -41,7 +40,7 @@ pub fn put_bulk(out: &mut [u8], text: &[u8]) -> Put
 }
 
 // A number as a bulk string, as a cursor is.
-pub fn put_bulk_digits(out: &mut [u8], n: u64) -> Put
+pub fn put_bulk_digits(out: &mut [u8], n: u64) -> Option<usize>
     ensures { Puts (encode (BulkString (digits n))) out.old result out.new }
 {
     let line = put_head(out, b'$', digits::digit_count(n));
@@ -50,7 +49,7 @@ pub fn put_bulk_digits(out: &mut [u8], n: u64) -> Put
 }
 
 // No array.
-pub fn put_nil_array(out: &mut [u8]) -> Put
+pub fn put_nil_array(out: &mut [u8]) -> Option<usize>
     ensures { Puts (encode NilArray) out.old result out.new }
 {
     base_writing::put_bytes(out, b"*-1\r\n")

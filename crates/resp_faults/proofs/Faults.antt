@@ -1,14 +1,10 @@
 -- The laws of the text of faults: each is written part by part. Assumes nothing.
-use mathlib.Core.Path.{◌≡◌, refl, sym, ◌∙◌}
+use mathlib.Core.Path.{◌≡◌, refl, ◌∙◌}
 use mathlib.Core.List.{◌++◌, map, map-append, append_assoc}
-use Prim.Native.Nat.{ℕ, ◌+◌, ◌-◌, ◌≤◌, ◌<◌}
-use native.Mathlib.Omega.{arith}
-use lib.ListN.{length, take, drop, length-drop, drop_of_length-le}
-use lib.Seq.{take_all, take-nil}
+use Prim.Native.Nat.{ℕ}
 use Rattle.resp_spec.proofs.ReplyTexts.{clean_quote, digits_clean}
 use Rattle.base_key.specs.Bytes.{Bytes, bytes}
 use Rattle.base_number.specs.Decimal.{digits}
-use Rattle.base_writing.specs.declared.Put.{Put}
 use Rattle.base_writing.specs.Puts.{Puts, Adds}
 use Rattle.base_writing.proofs.Puts.{then_puts, then_adds, same_added}
 use Rattle.resp_spec.specs.declared.Span.{Span}
@@ -19,17 +15,7 @@ use Rattle.resp_spec.specs.declared.Fault.TheVariants.{LineTooLong, NotText, Not
 use Rattle.resp_spec.specs.Utf8.{lossy}
 use Rattle.resp_spec.specs.Request.{spanned, limit_of, header_name, fault_text}
 use Rattle.resp_spec.specs.Reply.{clean, crlf, err, encode}
-
--- A PART OF THE REQUEST
-module _ (input : Bytes) (p : Span) where
-  pub part_none : length input ≤ p.start → take (length input - length input) (drop (length input) input) ≡ spanned input p
-  part_none h = let none : length input - length input ≡ 0 = omega arith in rw (none, drop_of_length-le input {i = p.start} h) (sym (take-nil p.len))
-
-  pub part_cut : length input - p.start < p.len → take (length input - p.start) (drop p.start input) ≡ spanned input p
-  part_cut h = take_all (length input - p.start) (drop p.start input) (simp length-drop (omega arith)) ∙ sym (take_all p.len (drop p.start input) (simp length-drop (omega arith)))
-
-  pub part_whole : take (p.start + p.len - p.start) (drop p.start input) ≡ spanned input p
-  part_whole = let size : p.start + p.len - p.start ≡ p.len = omega arith in rw size refl
+use Rattle.std.specs.Prelude.{Option}
 
 -- TEXTS WITHOUT CR AND LF
 name_clean : (kind : Header) → map clean (header_name kind) ≡ header_name kind
@@ -47,12 +33,12 @@ clean_five : (a b c d e : Bytes) → map clean a ≡ a → map clean b ≡ b →
 clean_five a b c d e pa pb pc pd pe = simp (map-append, pa, pb, pc, pd, pe)
 
 -- WRITING, where each part is behind the one before
-module _ {entry mid exit : Bytes} {put next after : Put} (s : Bytes) (kind : Header) where
+module _ {entry mid exit : Bytes} {put next after : Option ℕ} (s : Bytes) (kind : Header) where
   pub write_not_text : Adds (bytes "invalid ") put entry next mid → Adds (header_name kind) next mid after exit → Adds (map clean (fault_text s (NotText kind))) put entry after exit
   unfolding fault_text
   write_not_text a b = same_added (clean_two (bytes "invalid ") (header_name kind) refl (name_clean kind)) (then_adds a b)
 
-module _ {l0 l1 l2 l3 l4 l5 : Bytes} {u0 u1 u2 u3 u4 u5 : Put} (s : Bytes) (kind : Header) where
+module _ {l0 l1 l2 l3 l4 l5 : Bytes} {u0 u1 u2 u3 u4 u5 : Option ℕ} (s : Bytes) (kind : Header) where
   pub write_not_number : (p : Span) {x : Bytes} → Adds (bytes "invalid ") u0 l0 u1 l1 → Adds (header_name kind) u1 l1 u2 l2 → Adds (bytes " '") u2 l2 u3 l3
       → x ≡ spanned s p → Adds (map clean x) u3 l3 u4 l4 → Adds (bytes "'") u4 l4 u5 l5 → Adds (map clean (fault_text s (NotNumber kind p))) u0 l0 u5 l5
   unfolding fault_text
@@ -67,8 +53,8 @@ module _ {l0 l1 l2 l3 l4 l5 : Bytes} {u0 u1 u2 u3 u4 u5 : Put} (s : Bytes) (kind
       (clean_five (header_name kind) (bytes " ") (digits n) (bytes " is over the limit of ") (digits (limit_of kind)) (name_clean kind) refl (digits_clean n) refl (digits_clean (limit_of kind)) ∙ rw e refl)
       (then_adds (then_adds (then_adds (then_adds a b) c) d) f)
 
-module _ {l0 l1 l2 l3 : Bytes} {u1 u2 u3 : Put} (s : Bytes) where
-  pub write_no_dollar : {u0 : Put} (p : Span) {x : Bytes} → Adds (bytes "expected '$', got '") u0 l0 u1 l1 → x ≡ spanned s p → Adds (map clean (lossy x)) u1 l1 u2 l2 → Adds (bytes "'") u2 l2 u3 l3
+module _ {l0 l1 l2 l3 : Bytes} {u1 u2 u3 : Option ℕ} (s : Bytes) where
+  pub write_no_dollar : {u0 : Option ℕ} (p : Span) {x : Bytes} → Adds (bytes "expected '$', got '") u0 l0 u1 l1 → x ≡ spanned s p → Adds (map clean (lossy x)) u1 l1 u2 l2 → Adds (bytes "'") u2 l2 u3 l3
       → Adds (map clean (fault_text s (NoDollar p))) u0 l0 u3 l3
   unfolding fault_text
   write_no_dollar p {x} a e b c =
@@ -80,18 +66,10 @@ module _ {l0 l1 l2 l3 : Bytes} {u1 u2 u3 : Put} (s : Bytes) where
   write_reply f a b c = then_puts (then_puts a b) c
 
 -- texts that are fixed
-pub write_fixed_long : {entry exit : Bytes} {put after : Put} (s : Bytes) {f : Fault} → f ≡ LineTooLong → Adds (bytes "line too long") put entry after exit → Adds (map clean (fault_text s f)) put entry after exit
+pub write_fixed_long : {entry exit : Bytes} {put after : Option ℕ} (s : Bytes) {f : Fault} → f ≡ LineTooLong → Adds (bytes "line too long") put entry after exit → Adds (map clean (fault_text s f)) put entry after exit
 unfolding fault_text
 write_fixed_long s e a = rw e a
 
-pub write_fixed_end : {entry exit : Bytes} {put after : Put} (s : Bytes) {f : Fault} → f ≡ NoLineEnd → Adds (bytes "bulk string not followed by CRLF") put entry after exit → Adds (map clean (fault_text s f)) put entry after exit
+pub write_fixed_end : {entry exit : Bytes} {put after : Option ℕ} (s : Bytes) {f : Fault} → f ≡ NoLineEnd → Adds (bytes "bulk string not followed by CRLF") put entry after exit → Adds (map clean (fault_text s f)) put entry after exit
 unfolding fault_text
 write_fixed_end s e a = rw e a
-
--- a fault by its kind
-pub write_told : {entry exit : Bytes} {put after : Put} (s : Bytes) {f g : Fault} → f ≡ g → Adds (map clean (fault_text s g)) put entry after exit → Adds (map clean (fault_text s f)) put entry after exit
-write_told s e a = rw e a
-
--- the name of a header by its kind
-pub write_name : {entry exit : Bytes} {put after : Put} {k l : Header} → k ≡ l → Adds (header_name l) put entry after exit → Adds (header_name k) put entry after exit
-write_name e a = rw e a

@@ -9,7 +9,6 @@ ghost use Rattle.resp_spec.specs.Request.{spanned, header_name, fault_text};
 ghost use Rattle.resp_spec.specs.Reply.{clean, err, encode};
 
 use base_decimal::digits;
-use base_writing::Put;
 use resp_encode::reply;
 use resp_spec::{Fault, Header, Letters, Span};
 
@@ -17,21 +16,12 @@ use resp_spec::{Fault, Header, Letters, Span};
 pub fn part_of(input: &[u8], part: Span) -> &[u8]
     ensures { result.now ≡ spanned input.now part }
 {
-    let all = input.len();
-    let start = part.start;
-    let len = part.len;
-    if all <= start {
-        return &input[all..];
-    }
-    if all - start < len {
-        return &input[start..];
-    }
-    let end = start + len;
-    &input[start..end]
+    let rest = &input[part.start.min(input.len())..];
+    &rest[..part.len.min(rest.len())]
 }
 
 // Writes what a header counts behind what was put.
-fn then_header_name(out: &mut [u8], put: Put, kind: Header) -> Put
+fn then_header_name(out: &mut [u8], put: Option<usize>, kind: Header) -> Option<usize>
     ensures { Adds (header_name kind) put out.old result out.new }
 {
     match kind {
@@ -41,7 +31,7 @@ fn then_header_name(out: &mut [u8], put: Put, kind: Header) -> Put
 }
 
 // A header that is not UTF-8.
-fn then_not_text(out: &mut [u8], put: Put, input: &[u8], kind: Header) -> Put
+fn then_not_text(out: &mut [u8], put: Option<usize>, input: &[u8], kind: Header) -> Option<usize>
     ensures { Adds (map clean (fault_text input.now (NotText kind))) put out.old result out.new }
 {
     let said = base_writing::then_bytes(out, put, b"invalid ");
@@ -49,7 +39,13 @@ fn then_not_text(out: &mut [u8], put: Put, input: &[u8], kind: Header) -> Put
 }
 
 // A header that is no number, quoted.
-fn then_not_number(out: &mut [u8], put: Put, input: &[u8], kind: Header, part: Span) -> Put
+fn then_not_number(
+    out: &mut [u8],
+    put: Option<usize>,
+    input: &[u8],
+    kind: Header,
+    part: Span,
+) -> Option<usize>
     ensures { Adds (map clean (fault_text input.now (NotNumber kind part))) put out.old result out.new }
 {
     let said = base_writing::then_bytes(out, put, b"invalid ");
@@ -60,7 +56,13 @@ fn then_not_number(out: &mut [u8], put: Put, input: &[u8], kind: Header, part: S
 }
 
 // A number above the limit.
-fn then_over_limit(out: &mut [u8], put: Put, input: &[u8], kind: Header, n: u64) -> Put
+fn then_over_limit(
+    out: &mut [u8],
+    put: Option<usize>,
+    input: &[u8],
+    kind: Header,
+    n: u64,
+) -> Option<usize>
     ensures { Adds (map clean (fault_text input.now (OverLimit kind n))) put out.old result out.new }
 {
     let named = then_header_name(out, put, kind);
@@ -71,7 +73,7 @@ fn then_over_limit(out: &mut [u8], put: Put, input: &[u8], kind: Header, n: u64)
 }
 
 // An argument's line that does not begin with `$`: its first byte, quoted.
-fn then_no_dollar(out: &mut [u8], put: Put, input: &[u8], part: Span) -> Put
+fn then_no_dollar(out: &mut [u8], put: Option<usize>, input: &[u8], part: Span) -> Option<usize>
     ensures { Adds (map clean (fault_text input.now (NoDollar part))) put out.old result out.new }
 {
     let opened = base_writing::then_bytes(out, put, b"expected '$', got '");
@@ -85,7 +87,7 @@ fn then_no_dollar(out: &mut [u8], put: Put, input: &[u8], part: Span) -> Put
 }
 
 // Writes the text of a fault behind what was put.
-fn then_fault(out: &mut [u8], put: Put, input: &[u8], fault: Fault) -> Put
+fn then_fault(out: &mut [u8], put: Option<usize>, input: &[u8], fault: Fault) -> Option<usize>
     ensures { Adds (map clean (fault_text input.now fault)) put out.old result out.new }
 {
     match fault {
@@ -99,7 +101,7 @@ fn then_fault(out: &mut [u8], put: Put, input: &[u8], fault: Fault) -> Put
 }
 
 // Writes the reply to a fault in `input`.
-pub fn put_fault(out: &mut [u8], input: &[u8], fault: Fault) -> Put
+pub fn put_fault(out: &mut [u8], input: &[u8], fault: Fault) -> Option<usize>
     ensures { Puts (encode (err (bytes "Protocol error: " ++ fault_text input.now fault))) out.old result out.new }
 {
     let named = base_writing::put_bytes(out, b"-ERR Protocol error: ");

@@ -1,7 +1,7 @@
 -- The laws of reading a request. Assumes nothing.
 use mathlib.Core.Path.{◌≡◌, refl, sym, ap, ◌∙◌}
 use mathlib.Core.Bool.{Bool, true, false, cond}
-use mathlib.Core.Option.{none}
+use Rattle.std.specs.Prelude.{None}
 use mathlib.Core.List.{List, [], ◌∷◌, ◌++◌, append-nil}
 use Prim.Native.Nat.{ℕ, zero, suc, ◌+◌, ◌-◌, ◌/◌, ◌≤◌, ◌<◌}
 use native.Mathlib.Nat.{sub-zero}
@@ -17,19 +17,17 @@ use Rattle.resp_spec.specs.declared.Read.{Read}
 use Rattle.resp_spec.specs.declared.Read.TheVariants.{Wait, Faulty, TooMany, Whole}
 use Rattle.resp_bulk.specs.declared.Argument.{Argument}
 use Rattle.resp_bulk.specs.declared.Argument.TheVariants.{Unread, Faulty as FaultyArgument, Part}
-use Rattle.resp_headers.specs.declared.Count.{Count}
-use Rattle.resp_headers.specs.declared.Count.TheVariants.{Counts, Wrong}
 use Rattle.resp_spec.specs.declared.line.Line.{Line as LineAnswer}
 use Rattle.resp_spec.specs.declared.line.Line.TheVariants.{Text, Unfinished, TooLong}
 use Rattle.resp_spec.specs.declared.Header.TheVariants.{Multibulk}
 use Rattle.resp_spec.specs.declared.Fault.TheVariants.{LineTooLong}
 use Rattle.resp_spec.specs.Request.{span, Reading, waits, faulty, whole, with_span, read_arguments, line, line_of, header_of, array_of, read_array, words_from, read_inline, read_request}
-use Rattle.resp_spec.specs.Steps.{Inside, ReadIs, PlaceIn, with_place, LineIs, reading_of_words}
+use Rattle.resp_spec.specs.Steps.{ReadIs, with_place, LineIs, reading_of_words}
 use Rattle.resp_spec.proofs.Lines.{line_not_empty}
-use Rattle.resp_spec.proofs.Places.{Held, held_none, held_more, place_in, read_whole, read_wait, read_faulty, read_too_many}
-use Rattle.resp_headers.specs.Headers.{counted_of}
+use Rattle.resp_spec.proofs.Places.{Held, held_none, held_more, read_whole, read_wait, read_faulty, read_too_many}
 use Rattle.resp_bulk.specs.Arguments.{ArgumentIs, argument_at, goes_on}
 use Rattle.resp_parse.specs.Requests.{ArgumentsIn, ArrayLine}
+use Rattle.std.specs.Prelude.{Result, Ok, Err}
 
 -- ARGUMENTS
 -- arguments in front of those that a reading gives
@@ -69,9 +67,6 @@ passed_none {input} {entry} {count} {from} w =
     record { spans = []; held = held_none entry; same = rw sub-zero refl; within = omega arith; inside = w.inside }
 
 module _ {input entry table : List ℕ} {count from i at : ℕ} (g : Passed input entry table count from i at) where
-  pub passed_inside : Inside input at
-  passed_inside = record { inside = g.inside }
-
   pub passed_all : count ≤ i → ReadIs (read_arguments count from (drop from input)) (Whole count at) table
   unfolding read_arguments
   passed_all h =
@@ -91,9 +86,6 @@ module _ {input entry table : List ℕ} {count from i at : ℕ} (g : Passed inpu
     passed_faulty {f} e = read_faulty f (g.same ∙ ap (prefixed g.spans) (next ∙ rw e refl) ∙ prefixed_faulty g.spans f)
 
     module _ (w : ArgumentsIn input entry count from) where
-      pub passed_place : PlaceIn table i
-      passed_place = place_in g.held (omega (arith, w.places))
-
       pub passed_more : {start len : ℕ} {after : List ℕ} → r ≡ Part start len → after ≡ with_place i start len table → Passed input entry after count from (i + 1) (start + len + 2)
       passed_more {start} {len} e put =
           record {
@@ -111,42 +103,39 @@ behind_star_lem input zero h = absurd (omega arith)
 behind_star_lem [] (suc n) h = let e : suc n - 1 ≡ n = omega arith in rw e (take-nil n)
 behind_star_lem (b ∷ s) (suc n) h = let e : suc n - 1 ≡ n = omega arith in rw e refl
 
-module _ (input entry : List ℕ) (len used : ℕ) (w : ArrayLine input len used) (r : Count) (h : counted_of r ≡ header_of Multibulk 1 (take (len - 1) (drop 1 input))) where
-  array_is : read_array (length entry / 2) input (line (take len input) used) ≡ array_of (length entry / 2) used input (counted_of r)
+module _ (input entry : List ℕ) (len used : ℕ) (w : ArrayLine input len used) (r : Result ℕ Fault) (h : r ≡ header_of Multibulk 1 (take (len - 1) (drop 1 input))) where
+  array_is : read_array (length entry / 2) input (line (take len input) used) ≡ array_of (length entry / 2) used input r
   unfolding read_array
   array_is = ap (λ (text : Bytes). array_of (length entry / 2) used input (header_of Multibulk 1 text)) (sym (behind_star_lem input len w.some_byte)) ∙ rw (← h) refl
 
-  pub array_wrong : {table : List ℕ} {f : Fault} → r ≡ Wrong f → ReadIs (read_array (length entry / 2) input (line (take len input) used)) (Faulty f) table
+  pub array_wrong : {table : List ℕ} {f : Fault} → r ≡ Err f → ReadIs (read_array (length entry / 2) input (line (take len input) used)) (Faulty f) table
   unfolding array_of
   array_wrong {f = f} e = read_faulty f (array_is ∙ rw e refl)
 
-  module _ {n : ℕ} (e : r ≡ Counts n) where
+  module _ {n : ℕ} (e : r ≡ Ok n) where
     pub array_too_many : {table : List ℕ} → length entry / 2 < n → ReadIs (read_array (length entry / 2) input (line (take len input) used)) TooMany table
     unfolding array_of
     array_too_many over = read_too_many (array_is ∙ rw (e, lt-leb n (length entry / 2) over, array_of) refl)
 
-    pub array_arguments_in : n ≤ length entry / 2 → ArgumentsIn input entry n used
-    array_arguments_in room = record { places = room; inside = w.inside }
-
     pub array_arguments : {table : List ℕ} {a : Read} → n ≤ length entry / 2 → ReadIs (read_arguments n used (drop used input)) a table → ReadIs (read_array (length entry / 2) input (line (take len input) used)) a table
     unfolding array_of
     array_arguments room is =
-        let reading : array_of (length entry / 2) used input (counted_of r) ≡ read_arguments n used (drop used input) = rw (e, le-leb n (length entry / 2) room, array_of) refl in
+        let reading : array_of (length entry / 2) used input r ≡ read_arguments n used (drop used input) = rw (e, le-leb n (length entry / 2) room, array_of) refl in
         rw (array_is ∙ reading) is
 
 -- A REQUEST
-pub request_none : (places : ℕ) (input : Bytes) {table : List ℕ} → length input ≡ 0 → ReadIs (read_request places input) Wait table
+pub request_none : (places : ℕ) (input : Bytes) {table : List ℕ} → length input < 1 → ReadIs (read_request places input) Wait table
 unfolding read_request
 request_none places [] h = read_wait refl
 request_none places (b ∷ s) h = absurd (omega arith)
 
 -- by its first byte
-by_first : (places : ℕ) (input : Bytes) → (length input ≡ 0 → ⊥) → read_request places input ≡ cond (eqb (get_or input 0 0) 42) (read_array places input (line_of input)) (read_inline places (line_of input))
+by_first : (places : ℕ) (input : Bytes) → 1 ≤ length input → read_request places input ≡ cond (eqb (get_or input 0 0) 42) (read_array places input (line_of input)) (read_inline places (line_of input))
 unfolding read_request
-by_first places [] h = absurd (h refl)
+by_first places [] h = absurd (omega arith)
 by_first places (b ∷ s) h = refl
 
-module _ (places : ℕ) (input : Bytes) (some_byte : length input ≡ 0 → ⊥) {r : LineAnswer} (l : LineIs input r) where
+module _ (places : ℕ) (input : Bytes) (some_byte : 1 ≤ length input) {r : LineAnswer} (l : LineIs input r) where
   -- either way, where the line is not there
   either : (e : Reading) → read_array places input (line_of input) ≡ e → read_inline places (line_of input) ≡ e → read_request places input ≡ e
   either e p q = by_first places input some_byte ∙ go (eqb (get_or input 0 0) 42)
@@ -170,11 +159,11 @@ module _ (places : ℕ) (input : Bytes) (some_byte : length input ≡ 0 → ⊥)
     pub request_array_line : get_or input 0 0 ≡ 42 → ArrayLine input len used
     request_array_line star =
         let i = l.inside len used e in
-        record { some_byte = line_not_empty input len used some_byte star line_is; text = i.text; inside = i.inside }
+        record { some_byte = line_not_empty input len used (λ z. omega arith) star line_is; text = i.text; inside = i.inside }
 
     pub request_array : {table : List ℕ} {a : Read} → get_or input 0 0 ≡ 42 → ReadIs (read_array places input (line (take len input) used)) a table → ReadIs (read_request places input) a table
     request_array star is = rw (by_first places input some_byte, eq-eqb (get_or input 0 0) 42 star, ← line_is) is
 
-    pub request_inline : {table : List ℕ} {a : Read} → (get_or input 0 0 ≡ 42 → ⊥) → ReadIs (reading_of_words places (words_from 0 none (take len input)) used) a table → ReadIs (read_request places input) a table
+    pub request_inline : {table : List ℕ} {a : Read} → (get_or input 0 0 ≡ 42 → ⊥) → ReadIs (reading_of_words places (words_from 0 None (take len input)) used) a table → ReadIs (read_request places input) a table
     unfolding read_inline
     request_inline other is = rw (by_first places input some_byte, ne_eqb (get_or input 0 0) 42 other, ← line_is) is

@@ -5,7 +5,6 @@ ghost use Rattle.resp_spec.specs.Steps.{ReadIs};
 ghost use Rattle.resp_parse.specs.Requests.{ArgumentsIn, ArrayLine};
 
 use resp_bulk::Argument;
-use resp_headers::Count;
 use resp_spec::line::Line;
 use resp_spec::{Fault, Header, Read, inline, line, table};
 
@@ -15,8 +14,7 @@ fn read_arguments(input: &[u8], places: &mut [u64], count: usize, from: usize) -
     ensures { ReadIs (read_arguments count from (drop from input.now)) result places.new }
 {
     let mut at = from;
-    let mut i = 0;
-    while i < count {
+    for i in 0..count {
         match resp_bulk::read_argument(input, at) {
             Argument::Unread => return Read::Wait,
             Argument::Faulty(f) => return Read::Faulty(f),
@@ -25,7 +23,6 @@ fn read_arguments(input: &[u8], places: &mut [u64], count: usize, from: usize) -
                 at = start + len + 2;
             }
         }
-        i += 1;
     }
     Read::Whole(count, at)
 }
@@ -36,14 +33,14 @@ fn read_array(input: &[u8], places: &mut [u64], len: usize, used: usize) -> Read
     ensures { ReadIs (read_array (length places.old / 2) input.now (line (take len input.now) used)) result places.new }
 {
     match resp_headers::read_header(Header::Multibulk, 1, &input[1..len]) {
-        Count::Counts(n) => {
+        Ok(n) => {
             let count = n as usize;
             if places.len() / 2 < count {
                 return Read::TooMany;
             }
             read_arguments(input, places, count, used)
         }
-        Count::Wrong(f) => Read::Faulty(f),
+        Err(f) => Read::Faulty(f),
     }
 }
 
@@ -52,16 +49,12 @@ fn read_array(input: &[u8], places: &mut [u64], len: usize, used: usize) -> Read
 pub fn read(input: &[u8], places: &mut [u64]) -> Read
     ensures { ReadIs (read_request (length places.old / 2) input.now) result places.new }
 {
-    if input.len() == 0 {
+    let [first, ..] = input else {
         return Read::Wait;
-    }
+    };
     match line::read_line(input) {
-        Line::Text(len, used) => {
-            if input[0] == 42 {
-                return read_array(input, places, len, used);
-            }
-            inline::read_words(&input[..len], places, used)
-        }
+        Line::Text(len, used) if *first == b'*' => read_array(input, places, len, used),
+        Line::Text(len, used) => inline::read_words(&input[..len], places, used),
         Line::Unfinished => Read::Wait,
         Line::TooLong => Read::Faulty(Fault::LineTooLong),
     }

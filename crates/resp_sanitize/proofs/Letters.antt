@@ -3,54 +3,21 @@ use mathlib.Core.Path.{◌≡◌, refl, sym, ap, ◌∙◌}
 use mathlib.Core.List.{[], ◌∷◌, ◌++◌, map, map-append, append_assoc, append-nil}
 use Prim.Native.Nat.{ℕ, ◌+◌, ◌-◌, ◌≤◌, ◌<◌}
 use native.Mathlib.Omega.{arith}
-use borrow.Author.Tests.{le-leb, lt-leb}
 use native.Mathlib.Numerals.{add-one}
 use lib.ListN.{length, take, drop, set, get_or, replicate, length-map, length-set, drop_of_length-le}
 use lib.Seq.{take-suc, take_all}
 use Rattle.base_key.specs.Bytes.{Bytes}
-use Rattle.base_writing.specs.declared.Put.{Put}
-use Rattle.base_writing.specs.declared.Put.TheVariants.{Wrote, Full}
 use Rattle.base_writing.specs.Puts.{Puts, Adds}
-use Rattle.base_writing.proofs.Puts.{Written, nothing, stored, full, done, puts_nothing, then_puts, full_longer, same_text}
-use Rattle.resp_utf8.specs.declared.Piece.{Piece}
-use Rattle.resp_utf8.specs.declared.Piece.TheVariants.{Whole, Broken}
+use Rattle.base_writing.proofs.Puts.{Written, stored, full, done, puts_nothing, then_puts, full_longer, same_text}
 use Rattle.resp_spec.specs.Utf8.{between, replacement, lossy_from, lossy}
 use Rattle.resp_spec.specs.declared.Letters.{Letters}
 use Rattle.resp_spec.specs.declared.Letters.TheVariants.{AsSent, Capitals, Small}
-use Rattle.resp_spec.specs.Letters.{upper, lower, letter_as, shown_as}
+use Rattle.resp_spec.specs.Letters.{letter_as, shown_as}
 use Rattle.resp_spec.specs.Reply.{clean}
 use Rattle.resp_utf8.specs.Pieces.{piece_of}
 use Rattle.base_writing.proofs.Lent.{rest}
 use Rattle.resp_utf8.proofs.Pieces.{size, shown, lossy_at, inside_at}
-
--- ONE BYTE
-module _ (b : ℕ) where
-  pub upper_below : b < 97 → b ≡ upper b
-  upper_below h = rw (lt-leb 97 b h) refl
-
-  pub upper_above : 97 ≤ b → 122 < b → b ≡ upper b
-  upper_above l h = rw (le-leb 97 b l, lt-leb b 122 h) refl
-
-  pub upper_small : 97 ≤ b → b ≤ 122 → b - 32 ≡ upper b
-  upper_small l h = rw (le-leb 97 b l, le-leb b 122 h) refl
-
-  pub lower_below : b < 65 → b ≡ lower b
-  lower_below h = rw (lt-leb 65 b h) refl
-
-  pub lower_above : 65 ≤ b → 90 < b → b ≡ lower b
-  lower_above l h = rw (le-leb 65 b l, lt-leb b 90 h) refl
-
-  pub lower_capital : 65 ≤ b → b ≤ 90 → b + 32 ≡ lower b
-  lower_capital l h = rw (le-leb 65 b l, le-leb b 90 h) refl
-
-  pub shown_as_sent : {letters : Letters} {r : ℕ} → letters ≡ AsSent → r ≡ clean b → r ≡ shown_as letters b
-  shown_as_sent e is = rw e is
-
-  pub shown_upper : {letters : Letters} {c r : ℕ} → letters ≡ Capitals → c ≡ upper b → r ≡ clean c → r ≡ shown_as letters b
-  shown_upper e up is = rw (e, ← up) is
-
-  pub shown_lower : {letters : Letters} {c r : ℕ} → letters ≡ Small → c ≡ lower b → r ≡ clean c → r ≡ shown_as letters b
-  shown_lower e down is = rw (e, ← down) is
+use Rattle.std.specs.Prelude.{Option, None, Some, Result, Ok, Err}
 
 -- a text whose letters are changed first
 pub shown_letters : (letters : Letters) (s : Bytes) → map clean (map (letter_as letters) s) ≡ map (shown_as letters) s
@@ -64,15 +31,14 @@ pub record Copied (letters : Letters) (text entry : Bytes) (i : ℕ) (out : Byte
   pub size : length out ≡ length entry
   pub written : Written (map (shown_as letters) (take i text)) entry i out
 
-pub copied_none : (letters : Letters) (text entry : Bytes) → length text ≤ length entry → Copied letters text entry 0 entry
-copied_none letters text entry h = record { inside = omega arith; fits = h; size = refl; written = nothing entry }
-
-pub copied_too_long : (letters : Letters) (text : Bytes) {entry exit : Bytes} → length entry < length text → exit ≡ replicate (length entry) 0 → Puts (map (shown_as letters) text) entry Full exit
+pub copied_too_long : (letters : Letters) (text : Bytes) {entry exit : Bytes} → length entry < length text → exit ≡ replicate (length entry) 0 → Puts (map (shown_as letters) text) entry None exit
 copied_too_long letters text h zeros = full (simp length-map (omega arith)) zeros
 
 module _ {letters : Letters} {text entry out : Bytes} {i : ℕ} (g : Copied letters text entry i out) where
-  pub copied_all : length text ≤ i → Puts (map (shown_as letters) text) entry (Wrote i) out
-  copied_all h = done g.written (ap (map (shown_as letters)) (sym (take_all i text h)))
+  pub copied_all : length text ≤ i → Puts (map (shown_as letters) text) entry (Some (length text)) out
+  copied_all h =
+      let e : i ≡ length text = omega (arith, g.inside) in
+      rw (← e) (done g.written (ap (map (shown_as letters)) (sym (take_all i text h))))
 
   pub copied_more : {b : ℕ} → i < length text → b ≡ shown_as letters (get_or text i 0) → Copied letters text entry (i + 1) (set out i b)
   copied_more {b} h is =
@@ -91,27 +57,27 @@ replacement_shown Capitals = refl
 replacement_shown Small = refl
 
 -- what is written, and what is left of the text from `at` on
-pub record Shown (letters : Letters) (text : Bytes) (at : ℕ) (entry : Bytes) (put : Put) (out : Bytes) : Type 0 where
+pub record Shown (letters : Letters) (text : Bytes) (at : ℕ) (entry : Bytes) (put : Option ℕ) (out : Bytes) : Type 0 where
   pub written : Bytes
   pub left : map (shown_as letters) (lossy text) ≡ written ++ map (shown_as letters) (lossy_from between (drop at text))
   pub puts : Puts written entry put out
   pub inside : at ≤ length text
 
-pub shown_none : (letters : Letters) (text entry : Bytes) → Shown letters text 0 entry (Wrote 0) entry
+pub shown_none : (letters : Letters) (text entry : Bytes) → Shown letters text 0 entry (Some 0) entry
 unfolding lossy
 shown_none letters text entry = record { written = []; left = refl; puts = puts_nothing entry; inside = omega arith }
 
-module _ {letters : Letters} {text entry out : Bytes} {at : ℕ} {put : Put} (g : Shown letters text at entry put out) where
+module _ {letters : Letters} {text entry out : Bytes} {at : ℕ} {put : Option ℕ} (g : Shown letters text at entry put out) where
   pub shown_all : length text ≤ at → Puts (map (shown_as letters) (lossy text)) entry put out
   unfolding lossy_from
   shown_all h = same_text (g.left ∙ rw (drop_of_length-le text {i = at} h) (append-nil g.written)) g.puts
 
   -- what is written so far does not fit
-  pub shown_full : put ≡ Full → Puts (map (shown_as letters) (lossy text)) entry Full out
+  pub shown_full : put ≡ None → Puts (map (shown_as letters) (lossy text)) entry None out
   shown_full told = full_longer (map (shown_as letters) (lossy_from between (drop at text))) g.left g.puts told
 
-  module _ (h : at < length text) {p : Piece} (is : p ≡ piece_of (rest at text)) where
-    shown_more : {exit : Bytes} {after : Put} (more : Bytes) → more ≡ map (shown_as letters) (shown p (drop at text)) → Adds more put out after exit → Shown letters text (at + size p) entry after exit
+  module _ (h : at < length text) {p : Result ℕ ℕ} (is : p ≡ piece_of (rest at text)) where
+    shown_more : {exit : Bytes} {after : Option ℕ} (more : Bytes) → more ≡ map (shown_as letters) (shown p (drop at text)) → Adds more put out after exit → Shown letters text (at + size p) entry after exit
     shown_more more e a =
         let behind : Bytes = lossy_from between (drop (at + size p) text) in
         record {
@@ -126,10 +92,10 @@ module _ {letters : Letters} {text entry out : Bytes} {at : ℕ} {put : Put} (g 
           inside = inside_at text at h is;
         }
 
-    pub shown_whole : {exit : Bytes} {after : Put} {n : ℕ} → p ≡ Whole n → Adds (map (shown_as letters) (take (at + n - at) (drop at text))) put out after exit → Shown letters text (at + n) entry after exit
+    pub shown_whole : {exit : Bytes} {after : Option ℕ} {n : ℕ} → p ≡ Ok n → Adds (map (shown_as letters) (take (at + n - at) (drop at text))) put out after exit → Shown letters text (at + n) entry after exit
     shown_whole {n = n} e a =
         let size_is : at + n - at ≡ n = omega arith in
         rw (← ap size e) (shown_more (map (shown_as letters) (take (at + n - at) (drop at text))) (rw (e, size_is) refl) a)
 
-    pub shown_broken : {exit : Bytes} {after : Put} {n : ℕ} → p ≡ Broken n → Adds replacement put out after exit → Shown letters text (at + n) entry after exit
+    pub shown_broken : {exit : Bytes} {after : Option ℕ} {n : ℕ} → p ≡ Err n → Adds replacement put out after exit → Shown letters text (at + n) entry after exit
     shown_broken e a = rw (← ap size e) (shown_more replacement (rw e (sym (replacement_shown letters))) a)

@@ -7,47 +7,30 @@ ghost use Rattle.resp_spec.specs.Reply.{clean};
 ghost use Rattle.resp_spec.specs.Letters.{upper, lower, shown_as};
 ghost use Rattle.resp_spec.specs.Utf8.{lossy, replacement};
 
-use base_writing::Put;
 use resp_spec::Letters;
-use resp_utf8::Piece;
 
 // A space for CR and LF.
 fn clean_byte(byte: u8) -> u8
     ensures { result ≡ clean byte }
 {
-    if byte == 13 {
-        return 32;
+    match byte {
+        b'\r' | b'\n' => b' ',
+        _ => byte,
     }
-    if byte == 10 {
-        return 32;
-    }
-    byte
 }
 
 // A capital for a small letter.
 pub fn upper_byte(byte: u8) -> u8
     ensures { result ≡ upper byte }
 {
-    if byte < 97 {
-        return byte;
-    }
-    if 122 < byte {
-        return byte;
-    }
-    byte - 32
+    byte.to_ascii_uppercase()
 }
 
 // A small letter for a capital.
 fn lower_byte(byte: u8) -> u8
     ensures { result ≡ lower byte }
 {
-    if byte < 65 {
-        return byte;
-    }
-    if 90 < byte {
-        return byte;
-    }
-    byte + 32
+    byte.to_ascii_lowercase()
 }
 
 // A byte as it is shown.
@@ -62,23 +45,26 @@ fn shown_byte(byte: u8, letters: Letters) -> u8
 }
 
 // Writes a text in which CR and LF are spaces.
-pub fn put_clean(out: &mut [u8], text: &[u8], letters: Letters) -> Put
+pub fn put_clean(out: &mut [u8], text: &[u8], letters: Letters) -> Option<usize>
     ensures { Puts (map (shown_as letters) text.now) out.old result out.new }
 {
     if out.len() < text.len() {
         base_writing::clear(out);
-        return Put::Full;
+        return None;
     }
-    let mut i = 0;
-    while i < text.len() {
-        out[i] = shown_byte(text[i], letters);
-        i += 1;
+    for (i, byte) in text.iter().enumerate() {
+        out[i] = shown_byte(*byte, letters);
     }
-    Put::Wrote(i)
+    Some(text.len())
 }
 
 // Writes it behind what was put.
-pub fn then_clean(out: &mut [u8], put: Put, text: &[u8], letters: Letters) -> Put
+pub fn then_clean(
+    out: &mut [u8],
+    put: Option<usize>,
+    text: &[u8],
+    letters: Letters,
+) -> Option<usize>
     ensures { Adds (map (shown_as letters) text.now) put out.old result out.new }
 {
     let at = base_writing::place(put, out.len());
@@ -87,28 +73,28 @@ pub fn then_clean(out: &mut [u8], put: Put, text: &[u8], letters: Letters) -> Pu
 }
 
 // Writes U+FFFD behind what was put.
-fn then_replacement(out: &mut [u8], put: Put) -> Put
+fn then_replacement(out: &mut [u8], put: Option<usize>) -> Option<usize>
     ensures { Adds replacement put out.old result out.new }
 {
     base_writing::then_bytes(out, put, b"\xEF\xBF\xBD")
 }
 
 // Writes a text piece by piece: a character with CR and LF as spaces, and U+FFFD for any other piece.
-pub fn put_clean_lossy(out: &mut [u8], text: &[u8], letters: Letters) -> Put
+pub fn put_clean_lossy(out: &mut [u8], text: &[u8], letters: Letters) -> Option<usize>
     ensures { Puts (map (shown_as letters) (lossy text.now)) out.old result out.new }
 {
-    let mut put = Put::Wrote(0);
+    let mut put = Some(0);
     let mut at = 0;
     while at < text.len() {
-        let Put::Wrote(_) = put else {
-            return Put::Full;
+        let Some(_) = put else {
+            return None;
         };
         match resp_utf8::piece_at(&text[at..]) {
-            Piece::Whole(n) => {
+            Ok(n) => {
                 put = then_clean(out, put, &text[at..at + n], letters);
                 at += n;
             }
-            Piece::Broken(n) => {
+            Err(n) => {
                 put = then_replacement(out, put);
                 at += n;
             }
@@ -118,7 +104,12 @@ pub fn put_clean_lossy(out: &mut [u8], text: &[u8], letters: Letters) -> Put
 }
 
 // Writes it behind what was put.
-pub fn then_clean_lossy(out: &mut [u8], put: Put, text: &[u8], letters: Letters) -> Put
+pub fn then_clean_lossy(
+    out: &mut [u8],
+    put: Option<usize>,
+    text: &[u8],
+    letters: Letters,
+) -> Option<usize>
     ensures { Adds (map (shown_as letters) (lossy text.now)) put out.old result out.new }
 {
     let at = base_writing::place(put, out.len());

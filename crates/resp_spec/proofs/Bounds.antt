@@ -2,7 +2,7 @@
 use mathlib.Core.Path.{◌≡◌, refl}
 use mathlib.Core.Bool.{Bool, true, false, cond}
 use mathlib.Core.List.{List, [], ◌∷◌}
-use mathlib.Core.Option.{Option, none, some, map}
+use Rattle.std.specs.Prelude.{Option, None, Some, option_map, Result, Ok, Err}
 use Prim.Native.Nat.{ℕ, zero, suc, ◌+◌, ◌≤◌, ◌<◌}
 use native.Mathlib.Decide.{dec_le}
 use native.Mathlib.Omega.{arith}
@@ -10,9 +10,10 @@ use lib.Dec.{eqb, leb}
 use lib.ListN.{length, take, drop, length-drop, length-take}
 use borrow.Author.Tests.{eqb-true, eqb-false}
 use Rattle.base_key.specs.Bytes.{Bytes}
+use Rattle.resp_spec.specs.declared.Fault.{Fault}
 use Rattle.resp_spec.specs.declared.Span.{Span}
 use Rattle.resp_spec.specs.declared.Header.TheVariants.{Multibulk, Bulk}
-use Rattle.resp_spec.specs.Request.{span, Line, line, unfinished, too_long, feed_at, without_cr, line_at, line_of, Counted, counts, wrong, header_of, Reading, waits, faulty, too_many, whole, with_span, begins_cr_lf, bulk_body, argument_line, read_arguments, array_of, read_array, is_space, words_from, read_inline, read_request}
+use Rattle.resp_spec.specs.Request.{span, Line, line, unfinished, too_long, feed_at, without_cr, line_at, line_of, header_of, Reading, waits, faulty, too_many, whole, with_span, begins_cr_lf, bulk_body, argument_line, read_arguments, array_of, read_array, is_space, words_from, read_inline, read_request}
 use Rattle.resp_spec.specs.Steps.{Next}
 use Rattle.resp_spec.proofs.Lines.{feed_first, feed_later}
 use Rattle.resp_spec.proofs.Arguments.{body_waits, body_ends, body_other}
@@ -36,12 +37,12 @@ ReadingIn n (whole ps used) = WholeIn n ps used
 
 -- LINES
 abbrev FeedIn : ℕ → Option ℕ → Type 0
-FeedIn n none = Unit {0}
-FeedIn n (some i) = i < n
+FeedIn n None = Unit {0}
+FeedIn n (Some i) = i < n
 
-feed_next : (n : ℕ) (o : Option ℕ) → FeedIn n o → FeedIn (suc n) (map suc o)
-feed_next n none h = tt
-feed_next n (some i) h = omega arith
+feed_next : (n : ℕ) (o : Option ℕ) → FeedIn n o → FeedIn (suc n) (option_map suc o)
+feed_next n None h = tt
+feed_next n (Some i) h = omega arith
 
 feed_in : (s : Bytes) → FeedIn (length s) (feed_at s)
 unfolding feed_at
@@ -84,8 +85,8 @@ line_in s = go (feed_at s) (feed_in s)
     found false i h = tt
 
     go : (o : Option ℕ) → FeedIn (length s) o → LineBound (length s) (line_at o s)
-    go none h = short (leb (length s) 65536)
-    go (some i) h = found (leb i 65536) i h
+    go None h = short (leb (length s) 65536)
+    go (Some i) h = found (leb i 65536) i h
 
 -- ARGUMENTS
 with_in : (n : ℕ) (p : Span) (r : Reading) → p.start + p.len ≤ n → ReadingIn n r → ReadingIn n (with_span p r)
@@ -99,16 +100,16 @@ with_in n p (whole ps used) h i = record { used_in = i.used_in; spans_in = (h, i
 abbrev Stays : ℕ → Next → Type 0
 Stays n next = (at : ℕ) (s : Bytes) → at + length s ≤ n → ReadingIn n (next at s)
 
-body_in : (n : ℕ) (next : Next) → Stays n next → (at : ℕ) (s : Bytes) (c : Counted) → at + length s ≤ n → ReadingIn n (bulk_body next at s c)
+body_in : (n : ℕ) (next : Next) → Stays n next → (at : ℕ) (s : Bytes) (c : Result ℕ Fault) → at + length s ≤ n → ReadingIn n (bulk_body next at s c)
 unfolding bulk_body
-body_in n next stays at s (wrong f) h = tt
-body_in n next stays at s (counts k) h = sized (dec_le (k + 2) (length s))
+body_in n next stays at s (Err f) h = tt
+body_in n next stays at s (Ok k) h = sized (dec_le (k + 2) (length s))
   where
-    tested : (t : Bool) → begins_cr_lf (drop k s) ≡ t → k + 2 ≤ length s → ReadingIn n (bulk_body next at s (counts k))
+    tested : (t : Bool) → begins_cr_lf (drop k s) ≡ t → k + 2 ≤ length s → ReadingIn n (bulk_body next at s (Ok k))
     tested true e fits = rw (body_ends next at k s fits e) (with_in n (span at k) (next (at + k + 2) (drop (k + 2) s)) (omega arith) (stays (at + k + 2) (drop (k + 2) s) (simp length-drop (omega arith))))
     tested false e fits = rw (body_other next at k s fits e) tt
 
-    sized : Dec (k + 2 ≤ length s) → ReadingIn n (bulk_body next at s (counts k))
+    sized : Dec (k + 2 ≤ length s) → ReadingIn n (bulk_body next at s (Ok k))
     sized (yes fits) = tested (begins_cr_lf (drop k s)) refl fits
     sized (no short) = let less : length s < k + 2 = omega arith in rw (body_waits next at k s less) tt
 
@@ -128,12 +129,12 @@ unfolding read_arguments
 arguments_in n zero at s h = record { used_in = omega arith; spans_in = tt }
 arguments_in n (suc count) at s h = argument_in n (read_arguments count) (arguments_in n count) at s (line_of s) (line_in s) h
 
-array_of_in : (places used : ℕ) (s : Bytes) (c : Counted) → used ≤ length s → ReadingIn (length s) (array_of places used s c)
+array_of_in : (places used : ℕ) (s : Bytes) (c : Result ℕ Fault) → used ≤ length s → ReadingIn (length s) (array_of places used s c)
 unfolding array_of
-array_of_in places used s (wrong f) h = tt
-array_of_in places used s (counts k) h = go (leb k places) refl
+array_of_in places used s (Err f) h = tt
+array_of_in places used s (Ok k) h = go (leb k places) refl
   where
-    go : (t : Bool) → leb k places ≡ t → ReadingIn (length s) (array_of places used s (counts k))
+    go : (t : Bool) → leb k places ≡ t → ReadingIn (length s) (array_of places used s (Ok k))
     go true e = rw (e, array_of) (arguments_in (length s) k used (drop used s) (simp length-drop (omega arith)))
     go false e = rw (e, array_of) tt
 
@@ -146,21 +147,21 @@ array_in places s (line text used) b = array_of_in places used s (header_of Mult
 -- WORDS
 -- a word that has begun starts at or before `at`
 abbrev Begins : ℕ → Option ℕ → Type 0
-Begins at none = Unit {0}
-Begins at (some a) = a ≤ at
+Begins at None = Unit {0}
+Begins at (Some a) = a ≤ at
 
 words_in : (n at : ℕ) (o : Option ℕ) (s : Bytes) → Begins at o → at + length s ≤ n → SpansIn n (words_from at o s)
 unfolding words_from
-words_in n at none [] b h = tt
-words_in n at (some a) [] b h = (omega arith, tt)
-words_in n at none (x ∷ s) b h = go (is_space x) refl (words_in n (suc at) none s tt (omega arith)) (words_in n (suc at) (some at) s (omega arith) (omega arith))
+words_in n at None [] b h = tt
+words_in n at (Some a) [] b h = (omega arith, tt)
+words_in n at None (x ∷ s) b h = go (is_space x) refl (words_in n (suc at) None s tt (omega arith)) (words_in n (suc at) (Some at) s (omega arith) (omega arith))
   where
-    go : (t : Bool) → is_space x ≡ t → SpansIn n (words_from (suc at) none s) → SpansIn n (words_from (suc at) (some at) s) → SpansIn n (words_from at none (x ∷ s))
+    go : (t : Bool) → is_space x ≡ t → SpansIn n (words_from (suc at) None s) → SpansIn n (words_from (suc at) (Some at) s) → SpansIn n (words_from at None (x ∷ s))
     go true e p q = rw (space_between at x s e) p
     go false e p q = rw (word_begins at x s e) q
-words_in n at (some a) (x ∷ s) b h = go (is_space x) refl (words_in n (suc at) none s tt (omega arith)) (words_in n (suc at) (some a) s (omega arith) (omega arith))
+words_in n at (Some a) (x ∷ s) b h = go (is_space x) refl (words_in n (suc at) None s tt (omega arith)) (words_in n (suc at) (Some a) s (omega arith) (omega arith))
   where
-    go : (t : Bool) → is_space x ≡ t → SpansIn n (words_from (suc at) none s) → SpansIn n (words_from (suc at) (some a) s) → SpansIn n (words_from at (some a) (x ∷ s))
+    go : (t : Bool) → is_space x ≡ t → SpansIn n (words_from (suc at) None s) → SpansIn n (words_from (suc at) (Some a) s) → SpansIn n (words_from at (Some a) (x ∷ s))
     go true e p q = rw (word_ends at x s a e) (omega arith, p)
     go false e p q = rw (word_goes_on at x s a e) q
 
@@ -168,10 +169,10 @@ inline_in : (places n : ℕ) (l : Line) → LineBound n l → ReadingIn n (read_
 unfolding read_inline
 inline_in places n unfinished b = tt
 inline_in places n too_long b = tt
-inline_in places n (line text used) b = go (leb (length (words_from 0 none text)) places)
+inline_in places n (line text used) b = go (leb (length (words_from 0 None text)) places)
   where
-    go : (t : Bool) → ReadingIn n (cond t (whole (words_from 0 none text) used) too_many)
-    go true = record { used_in = b.used_in; spans_in = words_in n 0 none text tt (omega (arith, b.text_in)) }
+    go : (t : Bool) → ReadingIn n (cond t (whole (words_from 0 None text) used) too_many)
+    go true = record { used_in = b.used_in; spans_in = words_in n 0 None text tt (omega (arith, b.text_in)) }
     go false = tt
 
 pub request_in : (places : ℕ) (input : Bytes) → ReadingIn (length input) (read_request places input)

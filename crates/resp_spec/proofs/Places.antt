@@ -8,7 +8,7 @@ use lib.Seq.{take-suc-set}
 use Rattle.resp_spec.specs.declared.Span.{Span}
 use Rattle.resp_spec.specs.declared.Read.TheVariants.{Wait, Faulty, TooMany, Whole}
 use Rattle.resp_spec.specs.Request.{span, Reading, waits, faulty, too_many, whole}
-use Rattle.resp_spec.specs.Steps.{span_words, argument_words, ReadIs, PlaceIn, with_place}
+use Rattle.resp_spec.specs.Steps.{span_words, argument_words, ReadIs, with_place}
 
 pub words_length : (ps : List Span) → length (span_words ps) ≡ 2 * length ps
 unfolding span_words
@@ -31,9 +31,6 @@ unfolding span_words
 held_none entry = record { size = refl; many = refl; front = refl }
 
 module _ {entry table : List ℕ} {n : ℕ} {spans : List Span} (h : Held entry table n spans) where
-  pub place_in : n < length entry / 2 → PlaceIn table n
-  place_in l = record { inside = rw h.size l }
-
   pub held_more : (start len : ℕ) {after : List ℕ} → n < length entry / 2 → after ≡ with_place n start len table → Held entry after (n + 1) (spans ++ span start len ∷ [])
   unfolding with_place
   held_more start len {after} l e =

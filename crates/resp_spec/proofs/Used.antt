@@ -5,13 +5,14 @@ use native.Mathlib.Omega.{arith}
 use mathlib.Core.Path.{◌≡◌, refl}
 use mathlib.Core.Bool.{Bool, true, false, cond}
 use mathlib.Core.List.{[], ◌∷◌}
-use mathlib.Core.Option.{Option, none, some}
+use Rattle.std.specs.Prelude.{Option, None, Some, Result, Ok, Err}
 use lib.Dec.{eqb, leb}
 use lib.ListN.{length, take, drop}
 use Rattle.base_key.specs.Bytes.{Bytes}
+use Rattle.resp_spec.specs.declared.Fault.{Fault}
 use Rattle.resp_spec.specs.declared.Span.{Span}
 use Rattle.resp_spec.specs.declared.Header.TheVariants.{Multibulk, Bulk}
-use Rattle.resp_spec.specs.Request.{Line, line, unfinished, too_long, feed_at, without_cr, line_at, line_of, Counted, counts, wrong, header_of, Reading, waits, faulty, too_many, whole, with_span, span, begins_cr_lf, bulk_body, argument_line, read_arguments, array_of, read_array, words_from, read_inline, read_request}
+use Rattle.resp_spec.specs.Request.{Line, line, unfinished, too_long, feed_at, without_cr, line_at, line_of, header_of, Reading, waits, faulty, too_many, whole, with_span, span, begins_cr_lf, bulk_body, argument_line, read_arguments, array_of, read_array, words_from, read_inline, read_request}
 use Rattle.resp_spec.specs.Reply.{Reply, Simple, Error, Integer, BulkString, Nil, NilArray, Array, head, encode}
 use Rattle.resp_spec.specs.Steps.{Next}
 use Rattle.resp_spec.proofs.Arguments.{body_waits, body_ends, body_other}
@@ -34,16 +35,16 @@ with_uses n p (whole ps used) h = h
 abbrev Behind : ℕ → Next → Type 0
 Behind n next = (at : ℕ) (s : Bytes) → n ≤ at → UsesMost n (next at s)
 
-body_uses : (n : ℕ) (next : Next) → Behind n next → (at : ℕ) (s : Bytes) (c : Counted) → n ≤ at → UsesMost n (bulk_body next at s c)
+body_uses : (n : ℕ) (next : Next) → Behind n next → (at : ℕ) (s : Bytes) (c : Result ℕ Fault) → n ≤ at → UsesMost n (bulk_body next at s c)
 unfolding bulk_body
-body_uses n next behind at s (wrong f) h = tt
-body_uses n next behind at s (counts k) h = sized (dec_le (k + 2) (length s))
+body_uses n next behind at s (Err f) h = tt
+body_uses n next behind at s (Ok k) h = sized (dec_le (k + 2) (length s))
   where
-    tested : (t : Bool) → begins_cr_lf (drop k s) ≡ t → k + 2 ≤ length s → UsesMost n (bulk_body next at s (counts k))
+    tested : (t : Bool) → begins_cr_lf (drop k s) ≡ t → k + 2 ≤ length s → UsesMost n (bulk_body next at s (Ok k))
     tested true e fits = rw (body_ends next at k s fits e) (with_uses n (span at k) (next (at + k + 2) (drop (k + 2) s)) (behind (at + k + 2) (drop (k + 2) s) (omega arith)))
     tested false e fits = rw (body_other next at k s fits e) tt
 
-    sized : Dec (k + 2 ≤ length s) → UsesMost n (bulk_body next at s (counts k))
+    sized : Dec (k + 2 ≤ length s) → UsesMost n (bulk_body next at s (Ok k))
     sized (yes fits) = tested (begins_cr_lf (drop k s)) refl fits
     sized (no short) = let less : length s < k + 2 = omega arith in rw (body_waits next at k s less) tt
 
@@ -82,8 +83,8 @@ line_uses s = go (feed_at s)
     found false i = tt
 
     go : (o : Option ℕ) → LineUses (line_at o s)
-    go none = short (leb (length s) 65536)
-    go (some i) = found (leb i 65536) i
+    go None = short (leb (length s) 65536)
+    go (Some i) = found (leb i 65536) i
 
 array_uses : (places : ℕ) (s : Bytes) (l : Line) → LineUses l → UsesMost 1 (read_array places s l)
 unfolding read_array array_of
@@ -91,11 +92,11 @@ array_uses places s unfinished h = tt
 array_uses places s too_long h = tt
 array_uses places s (line text used) h = counted (header_of Multibulk 1 (drop 1 text))
   where
-    counted : (c : Counted) → UsesMost 1 (array_of places used s c)
-    counted (wrong f) = tt
-    counted (counts k) = go (leb k places) refl
+    counted : (c : Result ℕ Fault) → UsesMost 1 (array_of places used s c)
+    counted (Err f) = tt
+    counted (Ok k) = go (leb k places) refl
       where
-        go : (t : Bool) → leb k places ≡ t → UsesMost 1 (array_of places used s (counts k))
+        go : (t : Bool) → leb k places ≡ t → UsesMost 1 (array_of places used s (Ok k))
         go true e = rw (e, array_of) (arguments_use 1 k used (drop used s) h)
         go false e = rw (e, array_of) tt
 
@@ -103,9 +104,9 @@ inline_uses : (places : ℕ) (l : Line) → LineUses l → UsesMost 1 (read_inli
 unfolding read_inline
 inline_uses places unfinished h = tt
 inline_uses places too_long h = tt
-inline_uses places (line text used) h = go (leb (length (words_from 0 none text)) places)
+inline_uses places (line text used) h = go (leb (length (words_from 0 None text)) places)
   where
-    go : (t : Bool) → UsesMost 1 (cond t (whole (words_from 0 none text) used) too_many)
+    go : (t : Bool) → UsesMost 1 (cond t (whole (words_from 0 None text) used) too_many)
     go true = h
     go false = tt
 

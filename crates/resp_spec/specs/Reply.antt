@@ -1,6 +1,6 @@
 -- Replies and their bytes (document 01, section 4; the RESP2 specification).
 use Rattle.std.specs.Prelude.{ℕ, suc, max, cond, ◌||◌, List, [], ◌∷◌, ◌++◌, map, eqb, ℤ, length}
-use Rattle.std.proofs.Math.Option.{Option, none, some}
+use Rattle.std.specs.Prelude.{Option, None, Some}
 use Rattle.base_key.specs.Bytes.{Bytes, bytes}
 use Rattle.base_number.specs.Decimal.{digits, decimal}
 
@@ -92,8 +92,8 @@ array rs = Array (items rs)
 
 -- a value, or nil where there is none
 abbrev pub bulk_or : Option Bytes → Reply
-bulk_or none = Nil
-bulk_or (some v) = BulkString v
+bulk_or None = Nil
+bulk_or (Some v) = BulkString v
 
 -- `+OK`
 abbrev pub ok : Reply

@@ -1,9 +1,7 @@
 -- Reading a request (document 01, section 3; the RESP2 specification).
-use Rattle.std.specs.Prelude.{ℕ, zero, suc, ◌+◌, ◌-◌, Bool, true, false, cond, ◌&&◌, ◌||◌, List, [], ◌∷◌, ◌++◌, leb, eqb, length, take, drop}
-use Rattle.std.proofs.Math.Option.{Option, none, some, map}
+use Rattle.std.specs.Prelude.{ℕ, zero, suc, ◌+◌, ◌-◌, Bool, true, false, cond, ◌&&◌, ◌||◌, List, [], ◌∷◌, ◌++◌, leb, eqb, length, take, drop, Result, Ok, Err}
+use Rattle.std.specs.Prelude.{Option, None, Some, option_map}
 use Rattle.base_key.specs.Bytes.{Bytes, bytes, part}
-use Rattle.base_number.specs.declared.Length.{Length}
-use Rattle.base_number.specs.declared.Length.TheVariants.{Value, NoLength}
 use Rattle.base_number.specs.Decimal.{digits}
 use Rattle.base_number.specs.Number.{length_of}
 use Rattle.resp_spec.specs.declared.Span.{Span}
@@ -35,8 +33,8 @@ most_line = 65536
 
 -- the offset of the first LF (10)
 unfoldable pub feed_at : Bytes → Option ℕ
-feed_at [] = none
-feed_at (b ∷ s) = elim (eqb b 10) [ true ↦ some 0 | false ↦ map suc (feed_at s) ]
+feed_at [] = None
+feed_at (b ∷ s) = elim (eqb b 10) [ true ↦ Some 0 | false ↦ option_map suc (feed_at s) ]
 
 -- one CR (13) at the end is dropped
 unfoldable pub without_cr : Bytes → Bytes
@@ -46,8 +44,8 @@ without_cr (b ∷ c ∷ s) = b ∷ without_cr (c ∷ s)
 
 -- a line by the offset of its LF
 unfoldable pub line_at : Option ℕ → Bytes → Line
-line_at none s = cond (leb (length s) most_line) unfinished too_long
-line_at (some n) s = cond (leb n most_line) (line (without_cr (take n s)) (suc n)) too_long
+line_at None s = cond (leb (length s) most_line) unfinished too_long
+line_at (Some n) s = cond (leb n most_line) (line (without_cr (take n s)) (suc n)) too_long
 
 -- the line in front
 unfoldable pub line_of : Bytes → Line
@@ -58,19 +56,14 @@ abbrev pub limit_of : Header → ℕ
 limit_of Multibulk = 1048576
 limit_of Bulk = 67108864
 
--- a length that is accepted, or the fault
-pub data Counted : Type 0 where
-  counts : ℕ → Counted
-  wrong : Fault → Counted
-
 -- a length within its limit
-unfoldable pub header_within : Header → Span → Length → Counted
-header_within h p NoLength = wrong (NotNumber h p)
-header_within h p (Value n) = cond (leb n (limit_of h)) (counts n) (wrong (OverLimit h n))
+unfoldable pub header_within : Header → Span → Option ℕ → Result ℕ Fault
+header_within h p None = Err (NotNumber h p)
+header_within h p (Some n) = cond (leb n (limit_of h)) (Ok n) (Err (OverLimit h n))
 
 -- the text of a header, which starts at `start`
-unfoldable pub header_of : Header → ℕ → Bytes → Counted
-header_of h start text = cond (is_utf8 text) (header_within h (span start (length text)) (length_of text)) (wrong (NotText h))
+unfoldable pub header_of : Header → ℕ → Bytes → Result ℕ Fault
+header_of h start text = cond (is_utf8 text) (header_within h (span start (length text)) (length_of text)) (Err (NotText h))
 
 -- REQUESTS. No whole request yet; a protocol error; more arguments than places; the arguments and the bytes used.
 pub data Reading : Type 0 where
@@ -93,9 +86,9 @@ begins_cr_lf (b ∷ []) = false
 begins_cr_lf (b ∷ c ∷ s) = eqb b 13 && eqb c 10
 
 -- the bytes of an argument, which stand at `at` in front of `s`; then CR LF must follow
-unfoldable pub bulk_body : (ℕ → Bytes → Reading) → ℕ → Bytes → Counted → Reading
-bulk_body next at s (wrong f) = faulty f
-bulk_body next at s (counts n) = elim (leb (n + 2) (length s)) [
+unfoldable pub bulk_body : (ℕ → Bytes → Reading) → ℕ → Bytes → Result ℕ Fault → Reading
+bulk_body next at s (Err f) = faulty f
+bulk_body next at s (Ok n) = elim (leb (n + 2) (length s)) [
   | false ↦ waits
   | true ↦ elim (begins_cr_lf (drop n s)) [
     | true ↦ with_span (span at n) (next (at + n + 2) (drop (n + 2) s))
@@ -119,9 +112,9 @@ read_arguments zero at s = whole [] at
 read_arguments (suc n) at s = argument_line (read_arguments n) at s (line_of s)
 
 -- 2 follows an accepted count, and so precedes what the arguments hold
-unfoldable pub array_of : ℕ → ℕ → Bytes → Counted → Reading
-array_of places used s (wrong f) = faulty f
-array_of places used s (counts n) = elim (leb n places) [ true ↦ read_arguments n used (drop used s) | false ↦ too_many ]
+unfoldable pub array_of : ℕ → ℕ → Bytes → Result ℕ Fault → Reading
+array_of places used s (Err f) = faulty f
+array_of places used s (Ok n) = elim (leb n places) [ true ↦ read_arguments n used (drop used s) | false ↦ too_many ]
 
 -- an array, by its first line
 unfoldable pub read_array : ℕ → Bytes → Line → Reading
@@ -135,16 +128,16 @@ is_space b = eqb b 32 || eqb b 9 || eqb b 10 || eqb b 12 || eqb b 13
 
 -- the words of an inline line, from offset `at` on; `some a`: within a word that starts at a
 unfoldable pub words_from : ℕ → Option ℕ → Bytes → List Span
-words_from at none [] = []
-words_from at (some a) [] = span a (at - a) ∷ []
-words_from at none (b ∷ s) = elim (is_space b) [ true ↦ words_from (suc at) none s | false ↦ words_from (suc at) (some at) s ]
-words_from at (some a) (b ∷ s) = elim (is_space b) [ true ↦ span a (at - a) ∷ words_from (suc at) none s | false ↦ words_from (suc at) (some a) s ]
+words_from at None [] = []
+words_from at (Some a) [] = span a (at - a) ∷ []
+words_from at None (b ∷ s) = elim (is_space b) [ true ↦ words_from (suc at) None s | false ↦ words_from (suc at) (Some at) s ]
+words_from at (Some a) (b ∷ s) = elim (is_space b) [ true ↦ span a (at - a) ∷ words_from (suc at) None s | false ↦ words_from (suc at) (Some a) s ]
 
 -- an inline line split at spaces, without quoting
 unfoldable pub read_inline : ℕ → Line → Reading
 read_inline places unfinished = waits
 read_inline places too_long = faulty LineTooLong
-read_inline places (line text used) = let ps = words_from 0 none text in cond (leb (length ps) places) (whole ps used) too_many
+read_inline places (line text used) = let ps = words_from 0 None text in cond (leb (length ps) places) (whole ps used) too_many
 
 -- first byte `*` (42): an array; anything else: an inline line; no byte: wait
 unfoldable pub read_request : ℕ → Bytes → Reading

@@ -1,6 +1,6 @@
 -- What the steps of the reader answer: each code answer is turned into what the definitions of Request.antt say.
 use Rattle.std.specs.Prelude.{◌≡◌, false, cond, List, [], ◌∷◌, ℕ, suc, ◌+◌, ◌-◌, ◌*◌, ◌/◌, ◌≤◌, ◌<◌, leb, length, take, drop, get_or, set}
-use Rattle.std.proofs.Math.Option.{none}
+use Rattle.std.specs.Prelude.{None}
 use Rattle.base_key.specs.Bytes.{Bytes}
 use Rattle.resp_spec.specs.declared.line.Feed.{Feed}
 use Rattle.resp_spec.specs.declared.line.Feed.TheVariants.{At, NotYet, TooFar}
@@ -89,7 +89,7 @@ with_place i start len table = set (set table (2 * i) start) (2 * i + 1) len
 -- INLINE WORDS
 -- the next word from `from` on starts at r, or none does and r is the end
 pub record WordStart (text : Bytes) (from r : ℕ) : Type 0 where
-  pub same : words_from from none (drop from text) ≡ words_from r none (drop r text)
+  pub same : words_from from None (drop from text) ≡ words_from r None (drop r text)
   pub onward : from ≤ r
   pub inside : r ≤ length text
   pub starts : r < length text → is_space (get_or text r 0) ≡ false
@@ -101,7 +101,7 @@ pub record StartsWord (text : Bytes) (start : ℕ) : Type 0 where
 
 -- the word that starts at `start` ends before r
 pub record WordEnd (text : Bytes) (start r : ℕ) : Type 0 where
-  pub same : words_from start none (drop start text) ≡ span start (r - start) ∷ words_from r none (drop r text)
+  pub same : words_from start None (drop start text) ≡ span start (r - start) ∷ words_from r None (drop r text)
   pub some_byte : start < r
   pub inside : r ≤ length text
 

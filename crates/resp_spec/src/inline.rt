@@ -1,76 +1,48 @@
 // The words of an inline line.
-ghost use Rattle.std.specs.Prelude.{◌≡◌, ◌/◌, length};
-ghost use Rattle.std.proofs.Math.Option.{none};
+ghost use Rattle.std.specs.Prelude.{◌≡◌, ◌/◌, ◌≤◌, length};
+ghost use Rattle.std.specs.Prelude.{None};
+ghost use Rattle.std.specs.List.{prefix_len, position_or_len};
 ghost use Rattle.resp_spec.specs.Request.{is_space, words_from};
-ghost use Rattle.resp_spec.specs.Steps.{WordStart, StartsWord, WordEnd, ReadIs, reading_of_words, Inside};
+ghost use Rattle.resp_spec.specs.Steps.{ReadIs, reading_of_words};
 
 use crate::{Read, table};
 
-// Space, tab, LF, FF and CR part words.
-fn is_space(byte: u8) -> bool
-    ensures { result ≡ is_space byte }
+// How many bytes of space stand in front.
+fn space_len(text: &[u8]) -> usize
+    ensures len { result ≡ prefix_len is_space text.now }
+    ensures inside { result ≤ length text.now }
 {
-    if byte == 32 {
-        return true;
-    }
-    if byte == 9 {
-        return true;
-    }
-    if byte == 10 {
-        return true;
-    }
-    if byte == 12 {
-        return true;
-    }
-    byte == 13
+    text.iter()
+        .take_while(|byte| byte.is_ascii_whitespace())
+        .count()
 }
 
-// Where the next word starts, from `from` on, or the end.
-fn word_start(text: &[u8], from: usize) -> usize
-    requires { Inside text.now from }
-    ensures { WordStart text.now from result }
+// How many bytes of a word stand in front.
+fn word_len(text: &[u8]) -> usize
+    ensures len { result ≡ position_or_len is_space text.now }
+    ensures inside { result ≤ length text.now }
 {
-    let mut i = from;
-    while i < text.len() {
-        if is_space(text[i]) {
-            i += 1;
-        } else {
-            return i;
-        }
-    }
-    i
-}
-
-// Where the word ends that starts at `start`.
-fn word_end(text: &[u8], start: usize) -> usize
-    requires { StartsWord text.now start }
-    ensures { WordEnd text.now start result }
-{
-    let mut i = start + 1;
-    while i < text.len() {
-        if is_space(text[i]) {
-            return i;
-        }
-        i += 1;
-    }
-    i
+    text.iter()
+        .take_while(|byte| !byte.is_ascii_whitespace())
+        .count()
 }
 
 // Reads the words of a line that takes `used` bytes with its end.
 pub fn read_words(text: &[u8], places: &mut [u64], used: usize) -> Read
-    ensures { ReadIs (reading_of_words (length places.old / 2) (words_from 0 none text.now) used) result places.new }
+    ensures { ReadIs (reading_of_words (length places.old / 2) (words_from 0 None text.now) used) result places.new }
 {
     let room = places.len() / 2;
     let mut n = 0;
-    let mut at = word_start(text, 0);
+    let mut at = space_len(text);
     while at < text.len() {
         if room <= n {
             return Read::TooMany;
         }
-        let end = word_end(text, at);
-        table::put_place(places, n, at, end - at);
+        let len = word_len(&text[at..]);
+        table::put_place(places, n, at, len);
         n += 1;
-        at = word_start(text, end);
+        let end = at + len;
+        at = end + space_len(&text[end..]);
     }
     Read::Whole(n, used)
 }

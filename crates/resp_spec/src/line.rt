@@ -1,4 +1,6 @@
 // A line of a request: it ends at LF, and one CR before that is dropped.
+ghost use Rattle.std.specs.Prelude.{◌≡◌, ◌==◌, take};
+ghost use Rattle.std.specs.List.{position};
 ghost use Rattle.resp_spec.specs.Steps.{FeedIs, FeedIn, TextLen, LineIs};
 
 // Where the line's LF stands.
@@ -20,24 +22,22 @@ pub enum Line {
 // The LF stands at most this far from the line's start.
 const MOST_LINE: usize = 65536;
 
+// Where the first LF stands, as far as it may.
+fn near_feed(s: &[u8]) -> Option<usize>
+    ensures { result ≡ position (λ b. b == 10) (take 65537 s.now) }
+{
+    s.iter().take(MOST_LINE + 1).position(|byte| *byte == b'\n')
+}
+
 // Finds the LF of the line at the front.
 fn find_feed(s: &[u8]) -> Feed
     ensures { FeedIs s.now result }
 {
-    let mut i = 0;
-    while i < s.len() {
-        if MOST_LINE < i {
-            return Feed::TooFar;
-        }
-        if s[i] == 10 {
-            return Feed::At(i);
-        }
-        i += 1;
+    match near_feed(s) {
+        Some(i) => Feed::At(i),
+        None if s.len() <= MOST_LINE => Feed::NotYet,
+        None => Feed::TooFar,
     }
-    if MOST_LINE < i {
-        return Feed::TooFar;
-    }
-    Feed::NotYet
 }
 
 // The length of the text in front of an LF at n, without one CR at its end.
@@ -45,14 +45,7 @@ fn text_len(s: &[u8], n: usize) -> usize
     requires { FeedIn s.now n }
     ensures { TextLen s.now n result }
 {
-    if n == 0 {
-        return 0;
-    }
-    let last = n - 1;
-    if s[last] == 13 {
-        return last;
-    }
-    n
+    if s[..n].ends_with(b"\r") { n - 1 } else { n }
 }
 
 // Reads the line at the front.

@@ -13,10 +13,9 @@ use Rattle.base_key.specs.Bytes.{Bytes}
 use Rattle.base_writing.proofs.Lent.{rest, rest_is}
 use Rattle.resp_utf8.specs.declared.Lead.{Lead}
 use Rattle.resp_utf8.specs.declared.Lead.TheVariants.{Single, Several, Ill}
-use Rattle.resp_utf8.specs.declared.Piece.{Piece}
-use Rattle.resp_utf8.specs.declared.Piece.TheVariants.{Whole, Broken}
 use Rattle.resp_spec.specs.Utf8.{Decoded, byte_in, between, within, replacement, leads, continues, breaks, decode_byte, lossy_from, utf8_from, is_utf8}
 use Rattle.resp_utf8.specs.Pieces.{lead_of, piece_from, piece_by, piece_of, Begun, NotEmpty}
+use Rattle.std.specs.Prelude.{Result, Ok, Err}
 
 -- WHAT A FIRST BYTE SAYS, by the tests of the code
 module _ (b : ℕ) where
@@ -81,17 +80,17 @@ module _ (b : ℕ) where
                   lead_high n244 = rw (lt-leb b 127 past_single, le-leb 194 b first, lt-leb b 223 past_two, ne_eqb b 224 n224, ne_eqb b 237 n237, le-leb 225 b from_225, lt-leb b 239 past_three, ne_eqb b 240 n240, le-leb 241 b (omega arith), lt-leb b 243 (omega arith), ne_eqb b 244 n244) refl
 
 -- THE FIRST BYTE OF A TEXT, where the code says `l` of it
-piece_between : (n : ℕ) (s : Bytes) → piece_from n between s ≡ Whole n
+piece_between : (n : ℕ) (s : Bytes) → piece_from n between s ≡ Ok n
 unfolding piece_from
 piece_between n [] = refl
 piece_between n (b ∷ s) = refl
 
-pub first_single : (text : Bytes) {l : Lead} → NotEmpty text → lead_of (get_or text 0 0) l ≡ leads (get_or text 0 0) → l ≡ Single → Whole 1 ≡ piece_of text
+pub first_single : (text : Bytes) {l : Lead} → NotEmpty text → lead_of (get_or text 0 0) l ≡ leads (get_or text 0 0) → l ≡ Single → Ok 1 ≡ piece_of text
 unfolding lead_of decode_byte piece_of
 first_single [] ne e is = absurd (omega (arith, ne.not_empty))
 first_single (b ∷ s) ne e is = rw (← e, is) (sym (piece_between 1 s))
 
-pub first_ill : (text : Bytes) {l : Lead} → NotEmpty text → lead_of (get_or text 0 0) l ≡ leads (get_or text 0 0) → l ≡ Ill → Broken 1 ≡ piece_of text
+pub first_ill : (text : Bytes) {l : Lead} → NotEmpty text → lead_of (get_or text 0 0) l ≡ leads (get_or text 0 0) → l ≡ Ill → Err 1 ≡ piece_of text
 unfolding lead_of decode_byte piece_of
 first_ill [] ne e is = absurd (omega (arith, ne.not_empty))
 first_ill (b ∷ s) ne e is = rw (← e, is) refl
@@ -104,7 +103,7 @@ first_of_several (b ∷ s) ne e is = record { inside = omega arith; piece_is = r
 -- THE BYTES BEHIND IT
 module _ {text : Bytes} {n more low high : ℕ} (g : Begun text n more low high) where
   -- the text ends
-  pub piece_cut : length text ≤ n → Broken n ≡ piece_of text
+  pub piece_cut : length text ≤ n → Err n ≡ piece_of text
   unfolding piece_from
   piece_cut h = sym (g.piece_is ∙ rw (drop_of_length-le text {i = n} h) refl)
 
@@ -115,19 +114,19 @@ module _ {text : Bytes} {n more low high : ℕ} (g : Begun text n more low high)
     longer : take (n + 1) text ≡ take n text ++ get_or text n 0 ∷ []
     longer = rw (add-one, take-suc text n 0 h) refl
 
-    pub piece_low : get_or text n 0 < low → Broken n ≡ piece_of text
+    pub piece_low : get_or text n 0 < low → Err n ≡ piece_of text
     unfolding piece_from decode_byte breaks
     piece_low below = sym (g.piece_is ∙ rw (front, lt-leb low (get_or text n 0) below) refl)
 
-    pub piece_high : low ≤ get_or text n 0 → high < get_or text n 0 → Broken n ≡ piece_of text
+    pub piece_high : low ≤ get_or text n 0 → high < get_or text n 0 → Err n ≡ piece_of text
     unfolding piece_from decode_byte breaks
     piece_high above beyond = sym (g.piece_is ∙ rw (front, le-leb low (get_or text n 0) above, lt-leb (get_or text n 0) high beyond) refl)
 
     module _ (above : low ≤ get_or text n 0) (under : get_or text n 0 ≤ high) where
-      pub piece_whole : more ≡ 0 → Whole (n + 1) ≡ piece_of text
+      pub piece_whole : more ≡ 0 → Ok (n + 1) ≡ piece_of text
       unfolding piece_from decode_byte continues
       piece_whole z =
-          sym (g.piece_is ∙ rw (front, le-leb low (get_or text n 0) above, le-leb (get_or text n 0) high under, z) (piece_between (suc n) (drop (n + 1) text) ∙ ap Whole (sym (add-one n))))
+          sym (g.piece_is ∙ rw (front, le-leb low (get_or text n 0) above, le-leb (get_or text n 0) high under, z) (piece_between (suc n) (drop (n + 1) text) ∙ ap Ok (sym (add-one n))))
 
       goes_on_lem : (m : ℕ) → more ≡ suc m → Begun text (n + 1) m 128 191
       unfolding piece_from decode_byte continues
@@ -143,21 +142,21 @@ module _ {text : Bytes} {n more low high : ℕ} (g : Begun text n more low high)
       piece_goes_on nz = goes_on_lem (more - 1) (omega arith)
 
 -- A TEXT GIVEN OUT, AND TESTED, PIECE BY PIECE
-abbrev pub size : Piece → ℕ
-size (Whole n) = n
-size (Broken n) = n
+abbrev pub size : Result ℕ ℕ → ℕ
+size (Ok n) = n
+size (Err n) = n
 
-abbrev is_whole : Piece → Bool
-is_whole (Whole n) = true
-is_whole (Broken n) = false
+abbrev is_whole : Result ℕ ℕ → Bool
+is_whole (Ok n) = true
+is_whole (Err n) = false
 
 -- a character is given out as it is, any other piece as U+FFFD
-abbrev pub shown : Piece → Bytes → Bytes
-shown (Whole n) text = take n text
-shown (Broken n) text = replacement
+abbrev pub shown : Result ℕ ℕ → Bytes → Bytes
+shown (Ok n) text = take n text
+shown (Err n) text = replacement
 
 -- a piece read from the front, where the text is given out as `out` and tested by `test`
-record PieceAt (text out : Bytes) (test : Bool) (p : Piece) : Type 0 where
+record PieceAt (text out : Bytes) (test : Bool) (p : Result ℕ ℕ) : Type 0 where
   pub some_byte : 1 ≤ size p
   pub inside : size p ≤ length text
   pub lossy_is : out ≡ shown p text ++ lossy_from between (drop (size p) text)
@@ -192,7 +191,7 @@ module _ (p s : Bytes) (b : ℕ) where
   read_behind : drop (suc (length p)) (p ++ b ∷ s) ≡ s
   read_behind = ap (drop (suc (length p))) (sym (append_snoc p b s)) ∙ drop_at (p ++ b ∷ []) s (suc (length p)) read_length
 
-abbrev From : Bytes → ℕ → ℕ → ℕ → Bytes → Piece → Type 0
+abbrev From : Bytes → ℕ → ℕ → ℕ → Bytes → Result ℕ ℕ → Type 0
 From p more low high s q = PieceAt (p ++ s) (lossy_from (within p more low high) s) (utf8_from (within p more low high) s) q
 
 module _ (p : Bytes) (some : 1 ≤ length p) (more low high : ℕ) where
@@ -204,7 +203,7 @@ module _ (p : Bytes) (some : 1 ≤ length p) (more low high : ℕ) where
     from_broken : decode_byte (within p more low high) b ≡ breaks (leads b) → From p more low high (b ∷ s) (piece_from (length p) (within p more low high) (b ∷ s))
     unfolding lossy_from utf8_from piece_from breaks
     from_broken e =
-        let is : piece_from (length p) (within p more low high) (b ∷ s) ≡ Broken (length p) = rw e refl in
+        let is : piece_from (length p) (within p more low high) (b ∷ s) ≡ Err (length p) = rw e refl in
         subst (From p more low high (b ∷ s)) (sym is)
         (record {
           some_byte = some;
@@ -216,7 +215,7 @@ module _ (p : Bytes) (some : 1 ≤ length p) (more low high : ℕ) where
     from_whole : decode_byte (within p more low high) b ≡ record { out = p ++ b ∷ []; ill = false; next = between } → From p more low high (b ∷ s) (piece_from (length p) (within p more low high) (b ∷ s))
     unfolding lossy_from utf8_from piece_from
     from_whole e =
-        let is : piece_from (length p) (within p more low high) (b ∷ s) ≡ Whole (suc (length p)) = rw e (piece_between (suc (length p)) s) in
+        let is : piece_from (length p) (within p more low high) (b ∷ s) ≡ Ok (suc (length p)) = rw e (piece_between (suc (length p)) s) in
         subst (From p more low high (b ∷ s)) (sym is)
         (record {
           some_byte = omega arith;
@@ -298,7 +297,7 @@ pub record Sized (text : Bytes) (at n : ℕ) : Type 0 where
   pub inside : at + n ≤ length text
 
 -- the next piece, p
-module _ (text : Bytes) (at : ℕ) {p : Piece} (h : at < length text) (is : p ≡ piece_of (rest at text)) where
+module _ (text : Bytes) (at : ℕ) {p : Result ℕ ℕ} (h : at < length text) (is : p ≡ piece_of (rest at text)) where
   piece : PieceAt (rest at text) (lossy_from between (rest at text)) (utf8_from between (rest at text)) p
   piece = subst (PieceAt (rest at text) (lossy_from between (rest at text)) (utf8_from between (rest at text))) (sym is) (piece_at (rest at text) (rest_not_empty text at h))
 
@@ -315,14 +314,14 @@ module _ (text : Bytes) (at : ℕ) {p : Piece} (h : at < length text) (is : p �
   sized : {n : ℕ} → size p ≡ n → Sized text at n
   sized e = record { some_byte = omega (arith, piece.some_byte); inside = omega (arith, inside_at) }
 
-  pub whole_sized : {n : ℕ} → p ≡ Whole n → Sized text at n
+  pub whole_sized : {n : ℕ} → p ≡ Ok n → Sized text at n
   whole_sized e = sized (ap size e)
 
-  pub broken_sized : {n : ℕ} → p ≡ Broken n → Sized text at n
+  pub broken_sized : {n : ℕ} → p ≡ Err n → Sized text at n
   broken_sized e = sized (ap size e)
 
-  pub checked_more : {n : ℕ} → Checked text at → p ≡ Whole n → Checked text (at + n)
+  pub checked_more : {n : ℕ} → Checked text at → p ≡ Ok n → Checked text (at + n)
   checked_more {n} c e = record { inside = (whole_sized e).inside; same = c.same ∙ utf8_at ∙ rw e refl }
 
-  pub checked_ill : {n : ℕ} → Checked text at → p ≡ Broken n → false ≡ is_utf8 text
+  pub checked_ill : {n : ℕ} → Checked text at → p ≡ Err n → false ≡ is_utf8 text
   checked_ill c e = sym (c.same ∙ utf8_at ∙ rw e refl)

@@ -3,9 +3,8 @@ use Rattle.std.specs.Prelude.{◌≡◌, true, false, cond, [], ◌∷◌, ℕ, 
 use Rattle.base_key.specs.Bytes.{Bytes}
 use Rattle.resp_utf8.specs.declared.Lead.{Lead}
 use Rattle.resp_utf8.specs.declared.Lead.TheVariants.{Single, Several, Ill}
-use Rattle.resp_utf8.specs.declared.Piece.{Piece}
-use Rattle.resp_utf8.specs.declared.Piece.TheVariants.{Whole, Broken}
 use Rattle.resp_spec.specs.Utf8.{Place, Decoded, between, within, replacement, decode_byte}
+use Rattle.std.specs.Prelude.{Result, Ok, Err}
 
 -- what a first byte does, by what the code says of it
 unfoldable pub lead_of : ℕ → Lead → Decoded
@@ -14,20 +13,20 @@ lead_of b (Several more low high) = record { out = []; ill = false; next = withi
 lead_of b Ill = record { out = replacement; ill = true; next = between }
 
 -- the piece whose first n bytes lead to a place, with what follows them
-unfoldable pub piece_from : ℕ → Place → Bytes → Piece
-piece_from n between [] = Whole n
-piece_from n (within p more low high) [] = Broken n
-piece_from n between (b ∷ s) = Whole n
+unfoldable pub piece_from : ℕ → Place → Bytes → Result ℕ ℕ
+piece_from n between [] = Ok n
+piece_from n (within p more low high) [] = Err n
+piece_from n between (b ∷ s) = Ok n
 piece_from n (within p more low high) (b ∷ s) =
-    let d = decode_byte (within p more low high) b in cond d.ill (Broken n) (piece_from (suc n) d.next s)
+    let d = decode_byte (within p more low high) b in cond d.ill (Err n) (piece_from (suc n) d.next s)
 
 -- the piece at the front of a text that begins with such a byte
-abbrev pub piece_by : Decoded → Bytes → Piece
-piece_by d s = cond d.ill (Broken 1) (piece_from 1 d.next s)
+abbrev pub piece_by : Decoded → Bytes → Result ℕ ℕ
+piece_by d s = cond d.ill (Err 1) (piece_from 1 d.next s)
 
 -- THE PIECE AT THE FRONT of a text
-unfoldable pub piece_of : Bytes → Piece
-piece_of [] = Broken 0
+unfoldable pub piece_of : Bytes → Result ℕ ℕ
+piece_of [] = Err 0
 piece_of (b ∷ s) = piece_by (decode_byte between b) s
 
 -- the first n bytes begin a character: the next must lie within bounds, and `more` must follow it

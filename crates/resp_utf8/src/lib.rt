@@ -14,14 +14,6 @@ pub enum Lead {
     Ill,
 }
 
-// What stands at the front of a text: a character of so many bytes, or a maximal subpart of an
-// ill-formed one.
-#[derive(Clone, Copy)]
-pub enum Piece {
-    Whole(usize),
-    Broken(usize),
-}
-
 // What a first byte says.
 fn first_byte(byte: u8) -> Lead
     ensures { lead_of byte result ≡ leads byte }
@@ -57,7 +49,7 @@ fn first_byte(byte: u8) -> Lead
 }
 
 // The piece at the front, whose first byte is the first of several.
-fn piece_of_several(text: &[u8], more: usize, lowest: u8, highest: u8) -> Piece
+fn piece_of_several(text: &[u8], more: usize, lowest: u8, highest: u8) -> Result<usize, usize>
     requires { Begun text.now 1 more lowest highest }
     ensures { result ≡ piece_of text.now }
 {
@@ -68,31 +60,31 @@ fn piece_of_several(text: &[u8], more: usize, lowest: u8, highest: u8) -> Piece
     while n < text.len() {
         let byte = text[n];
         if byte < low {
-            return Piece::Broken(n);
+            return Err(n);
         }
         if high < byte {
-            return Piece::Broken(n);
+            return Err(n);
         }
         n += 1;
         if left == 0 {
-            return Piece::Whole(n);
+            return Ok(n);
         }
         left -= 1;
         low = 128;
         high = 191;
     }
-    Piece::Broken(n)
+    Err(n)
 }
 
 // The piece at the front.
-pub fn piece_at(text: &[u8]) -> Piece
+pub fn piece_at(text: &[u8]) -> Result<usize, usize>
     requires { NotEmpty text.now }
     ensures { result ≡ piece_of text.now }
 {
     match first_byte(text[0]) {
-        Lead::Single => Piece::Whole(1),
+        Lead::Single => Ok(1),
         Lead::Several(more, low, high) => piece_of_several(text, more, low, high),
-        Lead::Ill => Piece::Broken(1),
+        Lead::Ill => Err(1),
     }
 }
 
@@ -103,8 +95,8 @@ pub fn is_utf8(text: &[u8]) -> bool
     let mut at = 0;
     while at < text.len() {
         match piece_at(&text[at..]) {
-            Piece::Whole(n) => at += n,
-            Piece::Broken(_) => return false,
+            Ok(n) => at += n,
+            Err(_) => return false,
         }
     }
     true

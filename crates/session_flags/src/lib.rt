@@ -42,7 +42,6 @@ pub fn mark_failed(words: &mut [u64])
 {
     if words[FAILED] == 0 {
         words[FAILED] = 1;
-        return;
     }
 }
 

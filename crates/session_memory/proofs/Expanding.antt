@@ -3,7 +3,7 @@ use mathlib.Core.Path.{◌≡◌, refl, sym, ap, ◌∙◌}
 use mathlib.Core.Bool.{Bool, true, ◌&&◌}
 use mathlib.Core.List.{List, [], ◌∷◌, ◌++◌, append_assoc}
 use Prim.Native.Nat.{ℕ, zero, suc, ◌+◌, ◌-◌, ◌*◌, ◌<◌, ◌≤◌}
-use native.Mathlib.Nat.{zero-add, add-zero, add-suc, add_assoc, le_antisymm}
+use native.Mathlib.Nat.{zero-add, add-zero, add-suc, add_assoc}
 use native.Mathlib.Numerals.{add-one}
 use native.Mathlib.Omega.{arith}
 use borrow.Author.Tests.{leb-true}
@@ -85,9 +85,6 @@ module _ {w places : List ℕ} {count : ℕ} {a : List ℕ} {start i : ℕ} (p :
         start_is = let y : total (part 132 (i + 1) w) ≡ total ls + (len + 0) = ap total s ∙ total_append ls (len ∷ []) ∙ total_last ls len in omega (arith, p.start_is);
         left = omega (arith, left_next h);
       }
-
-  pub placed : count ≤ i → a ≡ put_at 0 (places_of 0 (part 132 count w)) places
-  placed h = p.is ∙ ap (λ (n : ℕ). put_at 0 (places_of 0 (part 132 n w)) places) (le_antisymm p.within h)
 
 -- WHAT THE PLACES ARE. Argument j of the table behind 2 k words is argument k + j of the whole.
 arguments_behind : (done rest : List ℕ) (s : Bytes) (k j n : ℕ) → length done ≡ 2 * k → arguments_at (k + j) n (done ++ rest) s ≡ arguments_at j n rest s

@@ -1,12 +1,12 @@
 -- A valid session read and written back is as it was; and the changes that touch its head alone. Assumes nothing.
 use mathlib.Core.Path.{◌≡◌, refl, sym, ap, ◌∙◌}
-use mathlib.Core.Bool.{Bool, true, false, not, cond}
+use mathlib.Core.Bool.{Bool, true, false, cond}
 use mathlib.Core.List.{List, [], ◌∷◌, ◌++◌, map}
-use mathlib.Core.Option.{none, some}
+use Rattle.std.specs.Prelude.{None, Some}
 use Prim.Native.Nat.{ℕ, zero, suc, ◌+◌, ◌*◌, ◌<◌, ◌≤◌}
 use native.Mathlib.Nat.{suc-mul, add_comm}
 use native.Mathlib.Omega.{arith}
-use borrow.Author.Tests.{ne_eqb, leb-true, eqb-true}
+use borrow.Author.Tests.{leb-true, eqb-true}
 use lib.Dec.{leb, eqb}
 use lib.ListN.{length, get_or, take, drop, set, length-drop}
 use lib.Seq.{drop-drop, take_all, take-take}
@@ -59,7 +59,7 @@ module _ {w : List ℕ} {b : Bytes} (h : Held w b) where
   unfolding session_from queue_in split_by
   queue_held = go (get_or w 0 0) refl
     where
-      go : (n : ℕ) → get_or w 0 0 ≡ n → queue_of (cond (yes? n) (some (queue_in w b)) none) ≡ queue_in w b
+      go : (n : ℕ) → get_or w 0 0 ≡ n → queue_of (cond (yes? n) (Some (queue_in w b)) None) ≡ queue_in w b
       go zero e = rw (h.quiet e)
       go (suc n) e = refl
 
@@ -67,7 +67,7 @@ module _ {w : List ℕ} {b : Bytes} (h : Held w b) where
   unfolding session_from flag_word
   multi_kept = go (get_or w 0 0)
     where
-      go : (n : ℕ) → flag_word (multi_of (cond (yes? n) (some (queue_in w b)) none)) n ≡ n
+      go : (n : ℕ) → flag_word (multi_of (cond (yes? n) (Some (queue_in w b)) None)) n ≡ n
       go zero = refl
       go (suc n) = refl
 
@@ -296,7 +296,3 @@ session_held last w b e i h =
     held_by_tests last (words_of_session i w) (bytes_of_session i b)
     (record { words = length_part_lem (i * 644) 644 w (omega arith); bytes = length_part_lem (i * 10240) 10240 b (omega arith) })
     (sessions_each last 16 w b (and_right (leb 163840 (length b)) (sessions_ok_in last 16 w b) r) i h)
-
-pub flag_is : (n : ℕ) → not (eqb n 0) ≡ yes? n
-flag_is zero = refl
-flag_is (suc n) = ap not (ne_eqb (suc n) 0 (λ e. omega arith))

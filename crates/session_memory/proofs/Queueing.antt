@@ -3,7 +3,7 @@ use mathlib.Core.Path.{◌≡◌, refl, sym, ap, ◌∙◌}
 use mathlib.Core.Bool.{Bool, true, false, ◌&&◌}
 use mathlib.Core.List.{List, [], ◌∷◌, ◌++◌, map, append-nil}
 use Prim.Native.Nat.{ℕ, zero, suc, ◌+◌, ◌-◌, ◌*◌, ◌<◌, ◌≤◌}
-use native.Mathlib.Nat.{zero-add, add-zero, add_assoc, le_antisymm}
+use native.Mathlib.Nat.{zero-add, add-zero}
 use native.Mathlib.Numerals.{add-one}
 use native.Mathlib.Omega.{arith}
 use borrow.Author.Tests.{le-leb, lt-leb, leb-true, leb-false}
@@ -20,7 +20,7 @@ use Rattle.command_spec.proofs.Parts.{total_append}
 use Rattle.session_memory.proofs.Sums.{capped_low, capped_high}
 use Rattle.base_key.proofs.Writes.{written_none, written_more, written_set, written_one, written_first, written_second, length_written, over_behind}
 use Rattle.session_memory.proofs.Kept.{front_part, data_length, queue_data_length, shape, bytes_shape, queue_count, queue_counts, queue_lengths, queue_bytes, failed_kept, watched_kept, keys_table, sequences_table, keys_data}
-use Rattle.command_spec.proofs.PlaceLaws.{lengths_next, lengths_end, lengths_snoc, lengths_count, arguments_snoc, arguments_count, arguments_lengths}
+use Rattle.command_spec.proofs.PlaceLaws.{lengths_next, lengths_snoc, lengths_count, arguments_snoc, arguments_count, arguments_lengths}
 
 -- pieces one behind the other
 pub concat_one : {A : Type 0} (s : List (List A)) (x : List A) → concat (s ++ x ∷ []) ≡ concat s ++ x
@@ -30,40 +30,6 @@ concat_one s x = concat_append s (x ∷ []) ∙ ap (λ (l : List _). concat s ++
 pub map-append : {A B : Type 0} (f : A → B) (s t : List A) → map f (s ++ t) ≡ map f s ++ map f t
 map-append f [] t = refl
 map-append f (x ∷ s) t = ap (λ (l : List _). f x ∷ l) (map-append f s t)
-
--- THE SUM of the lengths: `i` of them are summed
-pub record Adding (p : List ℕ) (count limit i sum : ℕ) : Type 0 where
-  pub within : i ≤ count
-  pub small : sum ≤ limit
-  pub is : total (lengths_at 0 count p) ≡ sum + total (lengths_at i (count - i) p)
-
-pub adding_none : (p : List ℕ) (count limit : ℕ) → Adding p count limit 0 0
-adding_none p count limit = record {
-  within = omega arith;
-  small = omega arith;
-  is = let e : count ≡ count - 0 = omega arith in ap (λ (n : ℕ). total (lengths_at 0 n p)) e ∙ sym (zero-add _);
-}
-
-module _ {p : List ℕ} {count limit i sum : ℕ} (s : Adding p count limit i sum) where
-  added_next : i < count → total (lengths_at 0 count p) ≡ sum + (get_or p (2 * i + 1) 0 + total (lengths_at (i + 1) (count - (i + 1)) p))
-  unfolding total
-  added_next h = s.is ∙ ap (λ (l : List ℕ). sum + total l) (lengths_next p count i h)
-
-  pub adding_more : {more : ℕ} → more ≡ get_or p (2 * i + 1) 0 → i < count → more ≤ limit - sum → Adding p count limit (i + 1) (sum + more)
-  adding_more {more} e h l = record {
-    within = omega arith;
-    small = omega arith;
-    is = added_next h ∙ ap (λ (n : ℕ). sum + (n + total (lengths_at (i + 1) (count - (i + 1)) p))) (sym e) ∙ sym (add_assoc sum more (total (lengths_at (i + 1) (count - (i + 1)) p)));
-  }
-
-  pub added_above : {more : ℕ} → more ≡ get_or p (2 * i + 1) 0 → i < count → limit - sum < more → limit + 1 ≡ capped limit (total (lengths_at 0 count p))
-  added_above e h l = sym (capped_high limit (total (lengths_at 0 count p)) (omega (arith, added_next h)))
-
-  pub added_all : count ≤ i → sum ≡ capped limit (total (lengths_at 0 count p))
-  unfolding total
-  added_all h =
-      let e : total (lengths_at 0 count p) ≡ sum = s.is ∙ ap (λ (l : List ℕ). sum + total l) (lengths_end p count i h) ∙ omega arith in
-      sym (capped_low limit (total (lengths_at 0 count p)) (omega arith) ∙ e)
 
 -- WRITING THE LENGTHS: the first i of them stand from `at` on.
 pub record Listing (w : List ℕ) (at : ℕ) (p : List ℕ) (count : ℕ) (a : List ℕ) (i : ℕ) : Type 0 where
@@ -86,9 +52,6 @@ module _ {w : List ℕ} {at : ℕ} {p : List ℕ} {count : ℕ} {a : List ℕ} {
             ∙ ap (λ (x : List ℕ). put_at at x w) (ap (λ (m : ℕ). lengths_at 0 i p ++ get_or p (2 * m + 1) 0 ∷ []) (sym (zero-add i)) ∙ sym (lengths_snoc 0 i p) ∙ ap (λ (m : ℕ). lengths_at 0 m p) (sym (add-one i)));
       }
 
-  pub listed : count ≤ i → a ≡ put_at at (lengths_at 0 count p) w
-  listed h = l.is ∙ ap (λ (m : ℕ). put_at at (lengths_at 0 m p) w) (le_antisymm l.within h)
-
 -- WRITING THE ARGUMENTS: the first i of them stand from `at` on, up to `pos`.
 pub record Storing (b : Bytes) (at : ℕ) (s : Bytes) (p : List ℕ) (count : ℕ) (a : Bytes) (pos i : ℕ) : Type 0 where
   pub within : i ≤ count
@@ -108,10 +71,7 @@ storing_none b at s p count = record {
 }
 
 module _ {b : Bytes} {at : ℕ} {s : Bytes} {p : List ℕ} {count : ℕ} {a : Bytes} {pos i : ℕ} (k : Storing b at s p count a pos i) (ps : PartsIn p s count) where
-  -- the next argument: it lies in the input, and there is room for it
-  pub next_inside : i < count → get_or p (2 * i) 0 + get_or p (2 * i + 1) 0 ≤ length s
-  next_inside h = ps.inside i h
-
+  -- the next argument: there is room for it
   next_left : i < count → pos + (get_or p (2 * i + 1) 0 + total (lengths_at (i + 1) (count - (i + 1)) p)) ≡ at + total (lengths_at 0 count p)
   unfolding total
   next_left h = ap (λ (l : List ℕ). pos + total l) (sym (lengths_next p count i h)) ∙ k.left
@@ -154,9 +114,6 @@ module _ {b : Bytes} {at : ℕ} {s : Bytes} {p : List ℕ} {count : ℕ} {a : By
           pos_is = omega (arith, k.pos_is, argument_length);
           left = omega (arith, next_left h);
         }
-
-  pub stored_all : count ≤ i → a ≡ put_at at (concat (arguments_at 0 count p s)) b
-  stored_all h = k.is ∙ ap (λ (m : ℕ). put_at at (concat (arguments_at 0 m p s)) b) (le_antisymm k.within h)
 
 -- THE LIMITS, in numbers: commands, arguments, bytes
 module _ {w : List ℕ} {b : Bytes} {p : List ℕ} {s : Bytes} {count : ℕ} (h : Held w b) (ps : PartsIn p s count) where

@@ -1,14 +1,15 @@
 -- Laws of a sum with a limit. Assumes nothing.
-use mathlib.Core.Path.{◌≡◌, sym, ap, ◌∙◌}
-use mathlib.Core.List.{List}
-use Prim.Native.Nat.{ℕ, ◌+◌, ◌-◌, ◌<◌, ◌≤◌}
-use native.Mathlib.Nat.{add_assoc, zero-add}
+use mathlib.Core.Path.{◌≡◌, refl, sym, ap, ◌∙◌}
+use mathlib.Core.List.{List, ◌∷◌}
+use Prim.Native.Nat.{ℕ, zero, suc, ◌+◌, ◌-◌, ◌*◌, ◌<◌, ◌≤◌}
 use native.Mathlib.Omega.{arith}
 use borrow.Author.Tests.{le-leb, lt-leb}
 use lib.ListN.{length, get_or}
 use Rattle.base_key.specs.Bytes.{part, total}
 use Rattle.command_spec.specs.Lent.{capped}
-use Rattle.command_spec.proofs.Parts.{part_next, part_none, part_start}
+use Rattle.command_spec.specs.Places.{lengths_at}
+use Rattle.command_spec.proofs.Parts.{part_cons}
+use Rattle.session_memory.specs.Every.{every}
 
 -- A CAPPED NUMBER.
 pub capped_low : (limit n : ℕ) → n ≤ limit → capped limit n ≡ n
@@ -19,38 +20,47 @@ pub capped_high : (limit n : ℕ) → limit < n → capped limit n ≡ limit + 1
 unfolding capped
 capped_high limit n h = rw (lt-leb n limit h)
 
--- `i` of the words from `from` on are summed
-pub record Summing (w : List ℕ) (from count limit i sum : ℕ) : Type 0 where
-  pub within : i ≤ count
+-- WORDS AT EQUAL DISTANCES
+every_next : (w : List ℕ) (from step count i : ℕ) → i < count → every (from + step * i) step (count - i) w ≡ get_or w (from + step * i) 0 ∷ every (from + step * (i + 1)) step (count - (i + 1)) w
+unfolding every
+every_next w from step count i h =
+    let e : count - i ≡ suc (count - (i + 1)) = omega arith in
+    let f : from + step * i + step ≡ from + step * (i + 1) = omega arith in
+    ap (λ (n : ℕ). every (from + step * i) step n w) e ∙ ap (λ (n : ℕ). get_or w (from + step * i) 0 ∷ every n step (count - (i + 1)) w) f
+
+-- at distance 1 they are a part
+pub every_part : (from n : ℕ) (w : List ℕ) → from + n ≤ length w → every from 1 n w ≡ part from n w
+unfolding every
+every_part from zero w h = refl
+every_part from (suc n) w h = ap (λ (l : List ℕ). get_or w from 0 ∷ l) (every_part (from + 1) n w (omega arith)) ∙ sym (part_cons w from n 0 (omega arith))
+
+-- at distance 2, lengths of places
+pub every_lengths : (k n : ℕ) (p : List ℕ) → every (2 * k + 1) 2 n p ≡ lengths_at k n p
+unfolding every lengths_at
+every_lengths k zero p = refl
+every_lengths k (suc n) p =
+    let e : 2 * k + 1 + 2 ≡ 2 * suc k + 1 = omega arith in
+    ap (λ (l : List ℕ). get_or p (2 * k + 1) 0 ∷ l) (ap (λ (m : ℕ). every m 2 n p) e ∙ every_lengths (suc k) n p)
+
+-- `i` of the words are summed
+pub record Summing (w : List ℕ) (from step count limit i sum : ℕ) : Type 0 where
   pub small : sum ≤ limit
-  pub is : total (part from count w) ≡ sum + total (part (from + i) (count - i) w)
+  pub is : total (every from step count w) ≡ sum + total (every (from + step * i) step (count - i) w)
 
-pub summing_none : (w : List ℕ) (from count limit : ℕ) → Summing w from count limit 0 0
-summing_none w from count limit = record {
-  within = omega arith;
-  small = omega arith;
-  is = ap total (part_start w from count) ∙ sym (zero-add _);
-}
-
-module _ {w : List ℕ} {from count limit i sum : ℕ} (s : Summing w from count limit i sum) where
-  summed_next : i < count → from + count ≤ length w
-      → total (part from count w) ≡ sum + (get_or w (from + i) 0 + total (part (from + (i + 1)) (count - (i + 1)) w))
+module _ {w : List ℕ} {from step count limit i sum : ℕ} (s : Summing w from step count limit i sum) where
+  summed_next : i < count → total (every from step count w) ≡ sum + (get_or w (from + step * i) 0 + total (every (from + step * (i + 1)) step (count - (i + 1)) w))
   unfolding total
-  summed_next h k = s.is ∙ ap (λ (l : List ℕ). sum + total l) (part_next w from count i 0 h k)
+  summed_next h = s.is ∙ ap (λ (l : List ℕ). sum + total l) (every_next w from step count i h)
 
-  pub summing_more : {more : ℕ} → more ≡ get_or w (from + i) 0 → i < count → from + count ≤ length w → more ≤ limit - sum → Summing w from count limit (i + 1) (sum + more)
-  summing_more {more} e h k l = record {
-    within = omega arith;
-    small = omega arith;
-    is = summed_next h k ∙ ap (λ (n : ℕ). sum + (n + total (part (from + (i + 1)) (count - (i + 1)) w))) (sym e)
-        ∙ sym (add_assoc sum more (total (part (from + (i + 1)) (count - (i + 1)) w)));
-  }
+  pub summing_more : {more : ℕ} → more ≡ get_or w (from + step * i) 0 → i < count → more ≤ limit - sum → Summing w from step count limit (i + 1) (sum + more)
+  summing_more e h l = record { small = omega arith; is = summed_next h ∙ omega arith }
 
-  pub sum_above : {more : ℕ} → more ≡ get_or w (from + i) 0 → i < count → from + count ≤ length w → limit - sum < more → limit + 1 ≡ capped limit (total (part from count w))
-  sum_above e h k l = sym (capped_high limit (total (part from count w)) (omega (arith, summed_next h k)))
+  pub sum_above : {more : ℕ} → more ≡ get_or w (from + step * i) 0 → i < count → limit - sum < more → limit + 1 ≡ capped limit (total (every from step count w))
+  sum_above e h l = sym (capped_high limit (total (every from step count w)) (omega (arith, summed_next h)))
 
-  pub summed_all : count ≤ i → sum ≡ capped limit (total (part from count w))
-  unfolding total
+  pub summed_all : count ≤ i → sum ≡ capped limit (total (every from step count w))
+  unfolding total every
   summed_all h =
-      let e : total (part from count w) ≡ sum = s.is ∙ ap (λ (l : List ℕ). sum + total l) (part_none w from count i h) ∙ omega arith in
-      sym (capped_low limit (total (part from count w)) (omega arith) ∙ e)
+      let n : count - i ≡ 0 = omega arith in
+      let e : total (every from step count w) ≡ sum = s.is ∙ ap (λ (n : ℕ). sum + total (every (from + step * i) step n w)) n ∙ omega arith in
+      sym (capped_low limit (total (every from step count w)) (omega arith) ∙ e)

@@ -4,12 +4,14 @@ use mathlib.Core.List.{List, [], ◌∷◌, ◌++◌, map, append-nil}
 use Prim.Native.Nat.{ℕ, ◌+◌}
 use native.Mathlib.Omega.{arith}
 use borrow.Author.Tests.{le-leb}
-use lib.ListN.{length, get_or, take, set, length-append, length-map, drop_of_length-le}
+use lib.ListN.{length, get_or, take, drop, set, length-append, length-map, drop_of_length-le}
+use lib.Seq.{drop-drop}
+use borrow.Rule.Slice.PartMut.{put_mid}
+use native.Mathlib.Nat.{zero-add}
 use Rattle.store_memtable.specs.Table.{Entry}
 use Rattle.base_key.proofs.Bytes.{length_part_lem}
 use Rattle.base_key.specs.Bytes.{Bytes, part, total, put_at}
 use Rattle.base_key.specs.Keys.{Key}
-use Rattle.command_spec.specs.declared.watched.Grown.{Grown}
 use Rattle.command_spec.specs.Session.{Watching, watched_keys, add_keys, watch_fits}
 use Rattle.command_spec.specs.Sessions.{split_by, keys_in, paired, session_from, session_words, session_bytes}
 use Rattle.command_spec.specs.Lent.{capped}
@@ -18,6 +20,7 @@ use Rattle.command_spec.specs.Watch.{keys_of, WatchTable, watch_of, Holding, Gro
 use Rattle.session_memory.proofs.Sums.{capped_low}
 use Rattle.base_key.proofs.Writes.{written_first, written_second}
 use Rattle.session_memory.proofs.Kept.{shape, bytes_shape, front_part, data_length, multi_kept, failed_kept, queued_kept, counts_table, lengths_table, queue_data}
+use Rattle.std.specs.Prelude.{Option}
 
 -- a write over the whole list
 pub written_whole : (x l : List ℕ) → length l ≡ length x → put_at 0 x l ≡ x
@@ -37,7 +40,7 @@ module _ {w : List ℕ} {b : Bytes} (h : Held w b) where
     used_is : u ≡ total (part 4 (get_or w 2 0) w)
     used_is = f ∙ ap (λ (x : ℕ). capped 2048 (total (part 4 x w))) e ∙ capped_low 2048 (total (part 4 (get_or w 2 0) w)) h.key_room
 
-    watch_table : WatchTable lens seqs text n u
+    pub watch_table : WatchTable lens seqs text n u
     watch_table =
         let k : total (take n lens) ≡ total (part 4 (get_or w 2 0) w) =
         (λ z. total (take (e z) (lens-are z))) ∙ ap total (sym (front_part h 4 32 (get_or w 2 0) h.few_keys)) in
@@ -61,34 +64,27 @@ module _ {w : List ℕ} {b : Bytes} (h : Held w b) where
         λ z. paired (keys_are z) (q z)
 
     -- what adding gives, in the session's own words
-    grown_here : (last : ℕ) (ks : List Key) (lens' seqs' : List ℕ) (text' : Bytes) (r : Grown) → GrownTo (add_keys last ks (watch_of lens seqs text n)) lens lens' seqs seqs' text text' r
+    pub grown_here : (last : ℕ) (ks : List Key) (lens' seqs' : List ℕ) (text' : Bytes) (r : Option (ℕ × ℕ)) → GrownTo (add_keys last ks (watch_of lens seqs text n)) lens lens' seqs seqs' text text' r
         → GrownTo (add_keys last ks (session_from w b).watch) (part 4 32 w) lens' (part 36 32 w) seqs' (part 0 2048 b) text' r
     grown_here last ks lens' seqs' text' r g = coe 0 1 (z. GrownTo (add_keys last ks (watch_is z)) (lens-are z) lens' (seqs-are z) seqs' (text_is z) text' r) g
 
--- THE STEPS of adding keys in working memory
-module _ {w : List ℕ} {b : Bytes} {n u : ℕ} (h : Held w b) (e : n ≡ get_or w 2 0) (f : u ≡ capped 2048 (total (part 4 n w))) (lens₀ seqs₀ : List ℕ) (text₀ : Bytes)
-    {lens seqs : List ℕ} {text : Bytes} (k : length lens₀ ≡ 32) (j : length seqs₀ ≡ 32) (l : length text₀ ≡ 2048)
-    (p : lens ≡ put_at 0 (part 4 32 w) lens₀) (o : seqs ≡ put_at 0 (part 36 32 w) seqs₀) (q : text ≡ put_at 0 (part 0 2048 b) text₀) where
-  lens_copied : lens ≡ part 4 32 w
-  lens_copied = p ∙ written_whole (part 4 32 w) lens₀ (k ∙ sym (table_length h))
-
-  seqs_copied : seqs ≡ part 36 32 w
-  seqs_copied = o ∙ written_whole (part 36 32 w) seqs₀ (j ∙ sym (sequences_length h))
-
-  text_copied : text ≡ part 0 2048 b
-  text_copied = q ∙ written_whole (part 0 2048 b) text₀ (l ∙ sym (data_length h))
-
-  pub copied_table : WatchTable lens seqs text n u
-  copied_table = watch_table h e f lens_copied seqs_copied text_copied
-
-  pub copied_grown : (last : ℕ) (ks : List Key) (lens' seqs' : List ℕ) (text' : Bytes) (r : Grown) → GrownTo (add_keys last ks (watch_of lens seqs text n)) lens lens' seqs seqs' text text' r
-      → GrownTo (add_keys last ks (session_from w b).watch) (part 4 32 w) lens' (part 36 32 w) seqs' (part 0 2048 b) text' r
-  copied_grown = grown_here h e f lens_copied seqs_copied text_copied
-
 -- THE KEYS PUT BACK
-pub watch_put : {w w₁ w₂ : List ℕ} {b b₁ : Bytes} {lens seqs : List ℕ} {text : Bytes} (count : ℕ) → w₁ ≡ put_at 4 lens w → w₂ ≡ put_at 36 seqs w₁ → b₁ ≡ put_at 0 text b
-    → WatchPut lens seqs text count w (set w₂ 2 count) b b₁
-watch_put {w} {lens = lens} {seqs = seqs} count p o q = record { words = ap (λ (x : List ℕ). set x 2 count) (o ∙ ap (put_at 36 seqs) p); bytes = q }
+written_part : (at n : ℕ) (x l : List ℕ) → length x ≡ n → put_mid at n l x ≡ put_at at x l
+unfolding put_at
+written_part at n x l e = ap (λ (t : List ℕ). take at l ++ (x ++ t)) (drop-drop n at l ∙ ap (λ (m : ℕ). drop (at + m) l) (sym e))
+
+written_start : (n : ℕ) (x l : List ℕ) → length x ≡ n → x ++ drop n l ≡ put_at 0 x l
+unfolding put_at
+written_start n x l e = ap (λ (m : ℕ). x ++ drop m l) (sym e ∙ sym (zero-add (length x)))
+
+pub watch_put : (w : List ℕ) (b : Bytes) {lens lens' seqs seqs' : List ℕ} {text text' : Bytes} (count : ℕ) → lens' ≡ lens → seqs' ≡ seqs → text' ≡ text
+    → length lens ≡ 32 → length seqs ≡ 32 → length text ≡ 2048
+    → WatchPut lens seqs text count w (set (put_mid 36 32 (put_mid 4 32 w lens') seqs') 2 count) b (text' ++ drop 2048 b)
+watch_put w b {lens = lens} {seqs = seqs} {text = text} count p q r e f g = record {
+  words = (λ z. set (put_mid 36 32 (put_mid 4 32 w (p z)) (q z)) 2 count)
+      ∙ ap (λ (x : List ℕ). set x 2 count) (written_part 36 32 seqs (put_mid 4 32 w lens) f ∙ ap (put_at 36 seqs) (written_part 4 32 lens w e));
+  bytes = ap (λ (x : Bytes). x ++ drop 2048 b) r ∙ written_start 2048 text b g;
+}
 
 -- a session with the keys that were added is the session that watches them
 module _ {w : List ℕ} {b : Bytes} (h : Held w b) (ks : List Key) {lens seqs : List ℕ} {text : Bytes} {count u : ℕ} (last : ℕ)

@@ -9,27 +9,25 @@ use native.Mathlib.Omega.{arith}
 use borrow.Author.Tests.{le-leb, lt-leb, leb-false}
 use lib.Dec.{leb}
 use lib.ListN.{length, get_or, take, drop, set, length-append, length-take, length-drop, take-append-drop}
-use lib.Seq.{slice, take-suc, drop-cons, get_or-take, get_or-drop, length-take-le, take-take, take_at, drop_at, drop-append-add, take-append-le, take-append-add, take-nil, drop-nil}
+use lib.Seq.{slice, paste, take-suc, drop-cons, get_or-take, get_or-drop, length-take-le, take-take, take_at, drop_at, drop-append-add, take-append-le, take-append-add, take-nil, drop-nil}
 use lib.ListN.{drop_of_length-le, length-map}
-use Rattle.base_key.specs.declared.Order.{Order}
-use Rattle.base_key.specs.declared.Order.TheVariants.{Less, Equal, Greater}
+use Rattle.std.proofs.lemmas.Slice.{between_is}
 use Rattle.base_key.specs.Bytes.{Bytes, part, over_front, concat, total, put_at, moved_up}
 use Rattle.base_key.specs.Keys.{Key, compare_keys}
 use Rattle.store_memtable.specs.Table.{Entry}
 use Rattle.command_spec.specs.Session.{Watching, watched_keys, watched_sequences, add_key, add_keys, watch_fits}
 use Rattle.command_spec.specs.Sessions.{split_by, paired}
-use Rattle.command_spec.specs.Places.{arguments_at, PartsIn}
+use Rattle.command_spec.specs.Places.{arguments_at}
 use Rattle.command_spec.proofs.PlaceLaws.{arguments_next, arguments_end}
 use Rattle.command_spec.specs.Watch.{keys_of, KeysAt, inserted_at, SpotAt, ThereAt, Spotted, Holding, GrownTo, WatchTable, watch_of}
 use Rattle.command_spec.proofs.Parts.{split_drop, split_length, split_lengths, split_concat, over_own, total_append}
 use Rattle.command_spec.proofs.SplitLaws.{split_back, paired_keys, paired_sequences, paired_back}
-use Rattle.base_key.proofs.Writes.{written_one, Moving, moving_all}
+use Rattle.base_key.proofs.Writes.{written_one, length_moved}
 use Rattle.session_memory.proofs.Queueing.{map-append}
 use Rattle.base_key.proofs.Bytes.{length_over_front, over_front_again, length_concat, concat_append}
-use Rattle.command_spec.specs.declared.watched.Spot.{Spot}
-use Rattle.command_spec.specs.declared.watched.Spot.TheVariants as spot
-use Rattle.command_spec.specs.declared.watched.Grown.{Grown}
-use Rattle.command_spec.specs.declared.watched.Grown.TheVariants as grown
+use Rattle.std.specs.Prelude.{Option, None, Some}
+use Rattle.std.specs.declared.cmp.Ordering.TheVariants.{Less, Equal, Greater}
+use Rattle.std.specs.declared.cmp.Ordering.{Ordering}
 
 -- THE PLACE OF A KEY.
 add_less : (n : ℕ) (k : Key) (e : Entry ℕ) (w : Watching) → compare_keys k e.0 ≡ Less → add_key n k (e ∷ w) ≡ (k, n) ∷ e ∷ w
@@ -119,7 +117,7 @@ module _ {lens : List ℕ} {text : Bytes} {count : ℕ} {name : Key} {start i : 
         ap (λ (l : List Key). get_or l 0 [])
         (ap watched_keys (sym (entry_here h)) ∙ map_drop (λ (e : Entry ℕ). e.0) i watch ∙ ap (drop i) (paired_keys (keys_of lens text count) ns) ∙ key_here h)
 
-  module _ {n : ℕ} {o : Order} (e : n ≡ get_or lens i 0) (is : o ≡ compare_keys name (part start (start + n - start) text)) (h : i < count) where
+  module _ {n : ℕ} {o : Ordering} (e : n ≡ get_or lens i 0) (is : o ≡ compare_keys name (part start (start + n - start) text)) (h : i < count) where
     order_is : (ns : List ℕ) → compare_keys name (entry ns).0 ≡ o
     order_is ns =
         let m : start + n - start ≡ get_or lens i 0 = omega arith in
@@ -157,15 +155,17 @@ module _ {lens : List ℕ} {text : Bytes} {count : ℕ} {name : Key} {start i : 
           ∙ ap (λ (m : ℕ). take m (watch ns) ++ add_key v name (drop m (watch ns))) (sym (add-one i));
     }
 
-  pub spot_last : count ≤ i → SpotAt lens text count name i start
+  pub spot_last : count ≤ i → SpotAt lens text count name count start
   unfolding inserted_at add_key
   spot_last h =
+      let e : i ≡ count = omega (arith, s.within) in
       let d : (ns : List ℕ) → drop i (watch ns) ≡ [] = λ ns. drop_of_length-le (watch ns) {i = i} (omega (arith, watch_length ns)) in
-      record {
+      subst (λ (n : ℕ). SpotAt lens text count name n start) e
+      (record {
         within = s.within;
         start_is = s.start_is;
         is = λ v ns. s.is v ns ∙ ap (λ (l : Watching). take i (watch ns) ++ add_key v name l) (d ns) ∙ ap (λ (l : Watching). take i (watch ns) ++ ((name, v) ∷ l)) (sym (d ns));
-      }
+      })
 
 -- a write into the gap that a move leaves puts `x` between
 pub gap_written : (l x : List ℕ) (at n : ℕ) → at ≤ n → n + length x ≤ length l → put_at at x (moved_up at n (length x) l) ≡ over_front (inserted_at at x (take n l)) l
@@ -186,11 +186,18 @@ gap_written l x at n h k =
     slice_is : drop at (take n l) ≡ slice at n l
     slice_is = refl
 
-pub word_inserted : {l : List ℕ} {at n : ℕ} {a : List ℕ} {j : ℕ} (value : ℕ) → Moving l at n 1 a j → j ≤ at → at ≤ n → n + 1 ≤ length l
+-- a copy of the part from `at` to `n` one place up is that move
+copied_up : (l : List ℕ) (at n : ℕ) → at ≤ n → paste l (at + 1) (drop at l) (n - at) ≡ moved_up at n 1 l
+unfolding moved_up
+copied_up l at n h =
+    let e : at + 1 + (n - at) ≡ n + 1 = omega arith in
+    append_assoc (take (at + 1) l) (take (n - at) (drop at l)) (drop (at + 1 + (n - at)) l) ∙ (λ z. take (at + 1) l ++ (between_is l at n z ++ drop (e z) l))
+
+pub word_inserted : (l : List ℕ) (at n value : ℕ) {a : List ℕ} → a ≡ paste l (at + 1) (drop at l) (n - at) → at ≤ n → n + 1 ≤ length l
     → set a at value ≡ over_front (inserted_at at (value ∷ []) (take n l)) l
-word_inserted {l} {at} {n} {a} {j} value m h i k =
-    let e : a ≡ moved_up at n 1 l = moving_all m h in
-    written_one at value a (omega (arith, m.same)) ∙ ap (put_at at (value ∷ [])) e ∙ gap_written l (value ∷ []) at n i k
+word_inserted l at n value {a} e h k =
+    let m : a ≡ moved_up at n 1 l = e ∙ copied_up l at n h in
+    written_one at value a (omega (arith, ap length m, length_moved l at n 1 h k)) ∙ ap (put_at at (value ∷ [])) m ∙ gap_written l (value ∷ []) at n h k
 
 pub bytes_inserted : (l x : List ℕ) (at n : ℕ) {a a' : List ℕ} → a ≡ moved_up at n (length x) l → a' ≡ put_at at x a → at ≤ n → n + length x ≤ length l
     → a' ≡ over_front (inserted_at at x (take n l)) l
@@ -231,9 +238,6 @@ total_inserted i n l =
 
 -- KEYS IN THEIR TABLES.
 module _ {lens seqs : List ℕ} {text : Bytes} {count used : ℕ} (t : WatchTable lens seqs text count used) where
-  pub keys_at : KeysAt lens text count
-  keys_at = record { table = omega (arith, t.table, t.few); room = omega (arith, t.used_is, t.room, t.bytes) }
-
   abbrev held : Watching
   held = watch_of lens seqs text count
 
@@ -282,7 +286,7 @@ module _ {lens seqs : List ℕ} {text : Bytes} {count used : ℕ} (t : WatchTabl
   unfolding watch_of
   there_is last name q = q.is last (take count seqs)
 
-  pub already_there : (last : ℕ) (name : Key) {s : Spot} → Spotted lens text count name s → s ≡ spot.There
+  pub already_there : (last : ℕ) (name : Key) {s : Option (ℕ × ℕ)} → Spotted lens text count name s → s ≡ None
       → Holding (add_key last name (watch_of lens seqs text count)) lens lens seqs seqs text text count used
   already_there last name a e =
       let q : ThereAt lens text count name = subst (Spotted lens text count name) e a in
@@ -348,7 +352,7 @@ module _ {lens seqs : List ℕ} {text : Bytes} {count used : ℕ} (t : WatchTabl
       let e : total (take i (take count lens)) ≡ total (take i lens) = ap total (take-take i count lens p.within) in
       omega (arith, p.start_is, t.used_is, total_cut i (take count lens))
 
-pub spotted_at : (lens : List ℕ) (text : Bytes) (count : ℕ) (name : Key) {s : Spot} {i start : ℕ} → Spotted lens text count name s → s ≡ spot.At i start → SpotAt lens text count name i start
+pub spotted_at : (lens : List ℕ) (text : Bytes) (count : ℕ) (name : Key) {s : Option (ℕ × ℕ)} {i start : ℕ} → Spotted lens text count name s → s ≡ Some (i, start) → SpotAt lens text count name i start
 spotted_at lens text count name a e = subst (Spotted lens text count name) e a
 
 -- ADDING NEVER SHRINKS.
@@ -375,7 +379,7 @@ unfolding add_key
 add_no_less n k [] = no_less_more k []
 add_no_less n k (e ∷ w) = go (compare_keys k e.0) refl (add_no_less n k w)
   where
-    go : (o : Order) → compare_keys k e.0 ≡ o → NoLess (watched_keys w) (watched_keys (add_key n k w)) → NoLess (watched_keys (e ∷ w)) (watched_keys (add_key n k (e ∷ w)))
+    go : (o : Ordering) → compare_keys k e.0 ≡ o → NoLess (watched_keys w) (watched_keys (add_key n k w)) → NoLess (watched_keys (e ∷ w)) (watched_keys (add_key n k (e ∷ w)))
     go Less q r = rw (add_less n k e w q) (no_less_more k (watched_keys (e ∷ w)))
     go Equal q r = rw (add_equal n k e w q) (no_less_refl (watched_keys (e ∷ w)))
     go Greater q r = rw (add_greater n k e w q) (no_less_cons e.0 r)
@@ -519,17 +523,14 @@ module _ {last : ℕ} {p : List ℕ} {s : Bytes} {from to : ℕ} {lens seqs : Li
           is = step_is ∙ ap (add_keys last (arguments_at (i + 1) (to - (i + 1)) p s)) (sym d);
         }
 
-  pub key_inside : PartsIn p s to → i < to → get_or p (2 * i) 0 + get_or p (2 * i + 1) 0 ≤ length s
-  key_inside ps h = ps.inside i h
-
   pub grown_all : to ≤ i → Holding (add_keys last (arguments_at from (to - from) p s) (watch_of lens seqs text count)) lens lens' seqs seqs' text text' n u
   unfolding add_keys
   grown_all h =
       subst (λ (js : Watching). Holding js lens lens' seqs seqs' text text' n u) (sym (g.is ∙ ap (λ (l : List Key). add_keys last l (watch_of lens' seqs' text' n)) (arguments_end p s h))) g.holding
 
-pub grown_holding : (js : Watching) (lens lens' seqs seqs' : List ℕ) (text text' : Bytes) {r : Grown} {n u : ℕ} → GrownTo js lens lens' seqs seqs' text text' r → r ≡ grown.To n u
+pub grown_holding : (js : Watching) (lens lens' seqs seqs' : List ℕ) (text text' : Bytes) {r : Option (ℕ × ℕ)} {n u : ℕ} → GrownTo js lens lens' seqs seqs' text text' r → r ≡ Some (n, u)
     → Holding js lens lens' seqs seqs' text text' n u
 grown_holding js lens lens' seqs seqs' text text' a e = subst (GrownTo js lens lens' seqs seqs' text text') e a
 
-pub grown_full : (js : Watching) (lens lens' seqs seqs' : List ℕ) (text text' : Bytes) {r : Grown} → GrownTo js lens lens' seqs seqs' text text' r → r ≡ grown.Full → watch_fits (watched_keys js) ≡ false
+pub grown_full : (js : Watching) (lens lens' seqs seqs' : List ℕ) (text text' : Bytes) {r : Option (ℕ × ℕ)} → GrownTo js lens lens' seqs seqs' text text' r → r ≡ None → watch_fits (watched_keys js) ≡ false
 grown_full js lens lens' seqs seqs' text text' a e = subst (GrownTo js lens lens' seqs seqs' text text') e a

@@ -1,9 +1,12 @@
 // Words of one session in lent memory (layout at the head of `specs/Sessions.antt` of `command_spec`): one of them, and the sum of several.
 #![tactic(auto)]
 
-ghost use Rattle.std.specs.Prelude.{◌≡◌, ◌+◌, ◌<◌, ◌≤◌, length, get_or};
+ghost use Rattle.std.specs.Prelude.{◌≡◌, ◌+◌, ◌<◌, ◌≤◌, length, ℕ, ◌*◌};
 ghost use Rattle.base_key.specs.Bytes.{part, total};
 ghost use Rattle.command_spec.specs.Lent.{capped};
+ghost use Rattle.session_memory.specs.Every.{every};
+
+pub use store_memtable::read::word;
 
 // The words of a session: inside MULTI or not, failed or not, the counts of watched keys and of queued commands; then where the lengths and the
 // sequences of the watched keys, the counts of arguments and the lengths of arguments begin.
@@ -41,19 +44,21 @@ pub const MOST_ARGUMENTS: usize = 512;
 
 pub const MOST_ARGUMENT_BYTES: usize = 8192;
 
-// A word as an index.
-fn index(x: u64) -> usize
-    ensures { result ≡ x }
+// The sum of `count` words, the first at `from` and each `step` places behind the one before, or one more than `limit` if it is above.
+pub fn sum_every(words: &[u64], from: usize, step: usize, count: usize, limit: usize) -> usize
+    requires inside { (i : ℕ) → i < count → from + step * i < length words.now }
+    requires limit_bound { limit ≤ 8192 }
+    ensures { result ≡ capped limit (total (every from step count words.now)) }
 {
-    x as usize
-}
-
-// The word at `at` as an index.
-pub fn word(words: &[u64], at: usize) -> usize
-    requires { at < length words.now }
-    ensures { result ≡ get_or words.now at 0 }
-{
-    index(words[at])
+    let mut sum = 0;
+    for i in 0..count {
+        let more = word(words, from + step * i);
+        if limit - sum < more {
+            return limit + 1;
+        }
+        sum += more;
+    }
+    sum
 }
 
 // The sum of `count` words from `from` on, or one more than `limit` if it is above.
@@ -61,15 +66,5 @@ pub fn sum_within(words: &[u64], from: usize, count: usize, limit: usize) -> usi
     requires { (from + count ≤ length words.now) × (limit ≤ 8192) }
     ensures { result ≡ capped limit (total (part from count words.now)) }
 {
-    let mut sum = 0;
-    let mut i = 0;
-    while i < count {
-        let more = word(words, from + i);
-        if limit - sum < more {
-            return limit + 1;
-        }
-        sum += more;
-        i += 1;
-    }
-    sum
+    sum_every(words, from, 1, count, limit)
 }

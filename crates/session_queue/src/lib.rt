@@ -16,17 +16,7 @@ pub fn lengths_within(places: &[u64], count: usize, limit: usize) -> usize
     requires { (2 * count ≤ length places.now) × (limit ≤ 8192) }
     ensures { result ≡ capped limit (total (lengths_at 0 count places.now)) }
 {
-    let mut sum = 0;
-    let mut i = 0;
-    while i < count {
-        let more = session_memory::word(places, 2 * i + 1);
-        if limit - sum < more {
-            return limit + 1;
-        }
-        sum += more;
-        i += 1;
-    }
-    sum
+    session_memory::sum_every(places, 1, 2, count, limit)
 }
 
 // Does the queue keep within its limits with a command of `count` arguments more?
@@ -53,10 +43,8 @@ fn put_lengths(words: &mut [u64], at: usize, places: &[u64], count: usize)
     requires { (at + count ≤ length words.old) × (2 * count ≤ length places.now) }
     ensures { words.new ≡ put_at at (lengths_at 0 count places.now) words.old }
 {
-    let mut i = 0;
-    while i < count {
+    for i in 0..count {
         words[at + i] = places[2 * i + 1];
-        i += 1;
     }
 }
 
@@ -67,14 +55,12 @@ fn put_arguments(bytes: &mut [u8], at: usize, input: &[u8], places: &[u64], coun
     ensures { bytes.new ≡ put_at at (concat (arguments_at 0 count places.now input.now)) bytes.old }
 {
     let mut pos = at;
-    let mut i = 0;
-    while i < count {
+    for i in 0..count {
         let start = session_memory::word(places, 2 * i);
         let len = session_memory::word(places, 2 * i + 1);
         let end = start + len;
         base_writing::put_at(bytes, pos, &input[start..end]);
         pos += len;
-        i += 1;
     }
 }
 
@@ -100,13 +86,10 @@ pub fn expand(words: &[u64], places: &mut [u64], count: usize)
     ensures { places.new ≡ put_at 0 (places_of 0 (part 132 count words.now)) places.old }
 {
     let mut start = 0;
-    let mut i = 0;
-    while i < count {
-        let len = session_memory::word(words, LENGTHS + i);
-        let at = 2 * i;
-        places[at] = start as u64;
-        places[at + 1] = len as u64;
+    for i in 0..count {
+        let len = words[LENGTHS + i];
+        places[2 * i] = start;
+        places[2 * i + 1] = len;
         start += len;
-        i += 1;
     }
 }

@@ -4,20 +4,25 @@ use mathlib.Core.Path.{◌≡◌, refl, sym, ap, ◌∙◌, subst}
 use mathlib.Core.List.{List}
 use lib.ListN.{length}
 use Rattle.base_key.specs.Bytes.{Bytes}
-use Rattle.base_writing.specs.declared.Put.{Put}
-use Rattle.base_writing.specs.declared.Put.TheVariants.{Wrote, Full}
 use Rattle.base_writing.specs.Puts.{Puts}
-use Rattle.resp_spec.specs.Reply.{Reply, encode}
+use Rattle.resp_spec.specs.Reply as reply
+use Rattle.resp_spec.specs.Reply.{encode}
 use Rattle.store_memtable.specs.Versions.{Store}
 use Rattle.command_spec.specs.declared.Answer.{Answer}
 use Rattle.command_spec.specs.Session.{Session, Done, says, returns, marked}
 use Rattle.command_spec.specs.Sessions.{session_from, session_words, session_bytes}
 use Rattle.command_spec.specs.Finish.{Served, silent, finish_by, finish, Says, SessionLeft}
-use Rattle.command_spec.specs.Held.{Held, Left, cleared, opened, unwatched}
+use Rattle.command_spec.specs.Held.{Held, Left}
 use Rattle.session_memory.proofs.Kept.{words_kept, bytes_kept, bytes_cleared, bytes_marked, bytes_opened, bytes_unwatched}
 use Rattle.command_answer.specs.Answers.{refusal, put_answer}
+use Rattle.command_spec.specs.declared.Fixed.{Fixed}
+use Rattle.command_spec.specs.Errors.{fixed_reply}
+use Rattle.session_route.specs.declared.routes.Step.{Step}
+use Rattle.session_route.specs.declared.routes.Step.TheVariants.{Open, Unwatch, Clear, Reply}
+use Rattle.session_route.specs.Routes.{reply_of, change_of, step_done}
 use Rattle.session_route.specs.Answers.{changing, same, Answered, Steered, Marks, Unchanged}
 use Rattle.command_answer.proofs.Finish.{Cleared, replied, finish_wrote, finish_full, says_wrote, full_cleared, says_number}
+use Rattle.std.specs.Prelude.{Option, None, Some}
 
 -- two ways to say what is done
 pub answered_same : {w w' : List ℕ} {b b' : Bytes} {used : ℕ} {out out' : Bytes} {r : Answer} (one two : Store → Session → Done) → ((st : Store) (s : Session) → two st s ≡ one st s)
@@ -43,14 +48,14 @@ module _ {w : List ℕ} {b : Bytes} (h : Held w b) (done : Store → Session →
   }
 
   -- a reply that fits
-  module _ (r : Reply) (s' : Session) (is : (st : Store) → done st s ≡ says r st s') {put : Put} {out' : Bytes} (p : Puts (encode r) out put out') where
-    pub answered_wrote : {k : ℕ} → put ≡ Wrote k → {w' : List ℕ} {b' : Bytes} → w' ≡ session_words s' w b → b' ≡ session_bytes s' b
+  module _ (r : reply.Reply) (s' : Session) (is : (st : Store) → done st s ≡ says r st s') {put : Option ℕ} {out' : Bytes} (p : Puts (encode r) out put out') where
+    pub answered_wrote : {k : ℕ} → put ≡ Some k → {w' : List ℕ} {b' : Bytes} → w' ≡ session_words s' w b → b' ≡ session_bytes s' b
         → Answered done w w' b b' used out (record { number = 0; used = used; reply = k }) out'
     answered_wrote {k} e {w'} {b'} f g =
         answered_as (record { number = 0; used = used; reply = k }) out' w' b' (λ st. replied used (encode r) st s')
         (λ st. ap (λ (d : Done). finish (length out) used d st s) (is st) ∙ finish_wrote r p used st st s s' e) (λ st. says_wrote r p used st st s s' e z) (λ st. record { words = f; bytes = g })
 
-    pub answered_full : put ≡ Full → Answered done w w b b used out (refusal 3) out'
+    pub answered_full : put ≡ None → Answered done w w b b used out (refusal 3) out'
     answered_full e =
         answered_as (refusal 3) out' w b (λ st. silent 3 0 st s) (λ st. ap (λ (d : Done). finish (length out) used d st s) (is st) ∙ finish_full r p used st st s s' e)
         (λ st. says_number 3 st s out out' (full_cleared r p used st st s s' e)) (λ st. record { words = sym (words_kept h); bytes = sym (bytes_kept h) })
@@ -67,51 +72,65 @@ module _ {w : List ℕ} {b : Bytes} (h : Held w b) (done : Store → Session →
       (λ st. says_number n st s' out out z) (λ st. record { words = f; bytes = g })
 
 -- A REPLY AND A CHANGE OF THE HEAD
-module _ {used : ℕ} {w out out' : Bytes} {put : Put} (change : Session → Session) (r : Reply) (z : Cleared out) (p : Puts (encode r) out put out') where
-  changed_wrote : {w' : List ℕ} {k : ℕ} → ((b : Bytes) → Held w b → session_bytes (change (session_from w b)) b ≡ b) → put ≡ Wrote k → Left change w w' → Steered (changing r change) w w' used out (record { number = 0; used = used; reply = k }) out'
+module _ {used : ℕ} {w out out' : Bytes} {put : Option ℕ} (change : Session → Session) (r : reply.Reply) (z : Cleared out) (p : Puts (encode r) out put out') where
+  changed_wrote : {w' : List ℕ} {k : ℕ} → ((b : Bytes) → Held w b → session_bytes (change (session_from w b)) b ≡ b) → put ≡ Some k → Left change w w' → Steered (changing r change) w w' used out (record { number = 0; used = used; reply = k }) out'
   unfolding changing
   changed_wrote stays e l = record {
     is = λ b h. answered_wrote h (changing r change) used z r (change (session_from w b)) (λ st. refl) p e (l.is b h) (sym (stays b h));
   }
 
-  pub changed_full : {a : Answer} → put ≡ Full → a ≡ refusal 3 → Steered (changing r change) w w used out a out'
+  changed_full : {a : Answer} → put ≡ None → a ≡ refusal 3 → Steered (changing r change) w w used out a out'
   unfolding changing
   changed_full e a-is = record {
     is = λ b h. subst (λ (x : Answer). Answered (changing r change) w w b b used out x out') (sym a-is) (answered_full h (changing r change) used z r (change (session_from w b)) (λ st. refl) p e);
   }
 
-module _ {used k : ℕ} {w w' out out' : Bytes} {put : Put} (r : Reply) (z : Cleared out) (p : Puts (encode r) out put out') (e : put ≡ Wrote k) where
-  pub clear_wrote : Left cleared w w' → Steered (changing r cleared) w w' used out (record { number = 0; used = used; reply = k }) out'
-  clear_wrote = changed_wrote cleared r z p (λ b h. bytes_cleared h) e
+-- A STEP
+step_bytes : (step : Step) {w : List ℕ} {b : Bytes} → Held w b → session_bytes (change_of step (session_from w b)) b ≡ b
+step_bytes Open h = bytes_opened h
+step_bytes Unwatch h = bytes_unwatched h
+step_bytes Clear h = bytes_cleared h
+step_bytes (Reply f) h = bytes_kept h
 
-  pub open_wrote : Left opened w w' → Steered (changing r opened) w w' used out (record { number = 0; used = used; reply = k }) out'
-  open_wrote = changed_wrote opened r z p (λ b h. bytes_opened h) e
+pub reply_leaves : {step : Step} {f : Fixed} (w : List ℕ) → step ≡ Reply f → Left (change_of step) w w
+reply_leaves w e = rw e (record { is = λ b h. sym (words_kept h) })
 
-  pub unwatch_wrote : Left unwatched w w' → Steered (changing r unwatched) w w' used out (record { number = 0; used = used; reply = k }) out'
-  unwatch_wrote = changed_wrote unwatched r z p (λ b h. bytes_unwatched h) e
+step_done_is : (step : Step) → step_done step ≡ changing (fixed_reply (reply_of step)) (change_of step)
+unfolding step_done
+step_done_is Open = refl
+step_done_is Unwatch = refl
+step_done_is Clear = refl
+step_done_is (Reply f) = refl
+
+as_done : (step : Step) {which : Fixed} → which ≡ reply_of step → step_done step ≡ changing (fixed_reply which) (change_of step)
+as_done step e = step_done_is step ∙ ap (λ (f : Fixed). changing (fixed_reply f) (change_of step)) (sym e)
+
+module _ (step : Step) {which : Fixed} {used : ℕ} {w out out' : Bytes} {put : Option ℕ} (e : which ≡ reply_of step) (z : Cleared out) (p : Puts (encode (fixed_reply which)) out put out') where
+  pub step_wrote : {w' : List ℕ} {k : ℕ} → put ≡ Some k → Left (change_of step) w w' → Steered (step_done step) w w' used out (record { number = 0; used = used; reply = k }) out'
+  step_wrote f l = rw (as_done step e) (changed_wrote (change_of step) (fixed_reply which) z p (λ b h. step_bytes step h) f l)
+
+  pub step_full : {a : Answer} → put ≡ None → a ≡ refusal 3 → Steered (step_done step) w w used out a out'
+  step_full f a-is = rw (as_done step e) (changed_full (change_of step) (fixed_reply which) z p f a-is)
 
 -- AN ERROR THAT MARKS
-module _ {used : ℕ} {put : Put} {w : List ℕ} where
-  pub marks_wrote : {w' : List ℕ} {k : ℕ} → put ≡ Wrote k → Left marked w w' → Marks put used w w' (record { number = 0; used = used; reply = k })
+module _ {used : ℕ} {put : Option ℕ} {w : List ℕ} where
+  pub marks_wrote : {w' : List ℕ} {k : ℕ} → put ≡ Some k → Left marked w w' → Marks put used w w' (record { number = 0; used = used; reply = k })
   marks_wrote e l = record { steered = λ x out out' z p. changed_wrote marked x z p (λ b h. bytes_marked h) e l }
 
-  pub marks_full : {a : Answer} → put ≡ Full → a ≡ refusal 3 → Marks put used w w a
+  pub marks_full : {a : Answer} → put ≡ None → a ≡ refusal 3 → Marks put used w w a
   marks_full e a-is = record { steered = λ x out out' z p. changed_full marked x z p e a-is }
 
-  pub error_marks : (x : Reply) {w' : List ℕ} {out out' : Bytes} {a : Answer} → Cleared out → Puts (encode x) out put out' → Marks put used w w' a → Steered (changing x marked) w w' used out a out'
-  error_marks x {out = out} {out' = out'} z p m = m.steered x out out' z p
-
 -- A REPLY ALONE
-pub only_replied : {used : ℕ} {out out' : Bytes} {put : Put} {a : Answer} (r : Reply) → Cleared out → Puts (encode r) out put out' → a ≡ put_answer put used → Unchanged (changing r same) used out a out'
+pub only_replied : {used : ℕ} {out out' : Bytes} {put : Option ℕ} {a : Answer} (r : reply.Reply) → Cleared out → Puts (encode r) out put out' → a ≡ put_answer put used → Unchanged (changing r same) used out a out'
 unfolding changing put_answer
 only_replied {used} {out} {out'} {put} {a} r z p a-is = go put refl
   where
-    go : (q : Put) → put ≡ q → Unchanged (changing r same) used out a out'
-    go (Wrote k) e = record {
-      is = λ w b h. subst (λ (x : Answer). Answered (changing r same) w w b b used out x out') (sym (a-is ∙ ap (λ (x : Put). put_answer x used) e))
+    go : (q : Option ℕ) → put ≡ q → Unchanged (changing r same) used out a out'
+    go (Some k) e = record {
+      is = λ w b h. subst (λ (x : Answer). Answered (changing r same) w w b b used out x out') (sym (a-is ∙ ap (λ (x : Option ℕ). put_answer x used) e))
           (answered_wrote h (changing r same) used z r (session_from w b) (λ st. refl) p e (sym (words_kept h)) (sym (bytes_kept h)));
     }
-    go Full e = record {
-      is = λ w b h. subst (λ (x : Answer). Answered (changing r same) w w b b used out x out') (sym (a-is ∙ ap (λ (x : Put). put_answer x used) e))
+    go None e = record {
+      is = λ w b h. subst (λ (x : Answer). Answered (changing r same) w w b b used out x out') (sym (a-is ∙ ap (λ (x : Option ℕ). put_answer x used) e))
           (answered_full h (changing r same) used z r (session_from w b) (λ st. refl) p e);
     }

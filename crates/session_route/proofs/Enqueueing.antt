@@ -5,8 +5,6 @@ use mathlib.Core.Bool.{Bool, true, false, cond}
 use mathlib.Core.List.{List, [], ◌∷◌, ◌++◌}
 use lib.ListN.{length, get_or}
 use Rattle.base_key.specs.Bytes.{Bytes}
-use Rattle.base_writing.specs.declared.Put.{Put}
-use Rattle.base_writing.specs.declared.Put.TheVariants.{Wrote, Full}
 use Rattle.base_writing.specs.Puts.{Puts}
 use Rattle.resp_spec.specs.Reply.{Reply, encode}
 use Rattle.store_memtable.specs.Versions.{Store}
@@ -30,6 +28,7 @@ use Rattle.session_route.specs.Answers.{changing, Answered, Steered}
 use Rattle.session_route.specs.Routes.{queueing, queue_done}
 use Rattle.command_answer.proofs.Finish.{Cleared}
 use Rattle.session_route.proofs.Answering.{answered_same, answered_wrote, answered_full, answered_number}
+use Rattle.std.specs.Prelude.{Option, None, Some}
 
 module _ {w : List ℕ} {b : Bytes} {p : List ℕ} {s : Bytes} {count : ℕ} (h : Held w b) (ps : PartsIn p s count) {takes : Bool} (t : Takes w p count takes) where
   abbrev args : Args
@@ -54,12 +53,12 @@ module _ {w : List ℕ} {b : Bytes} {p : List ℕ} {s : Bytes} {count : ℕ} (h 
       ap (λ (v : Bool). cond v (says queued_reply st (queuing (queue_of (session_from w b).queue ++ args ∷ []) (session_from w b))) (returns 4 st (marked (session_from w b)))) (fits e)
 
   module _ {used : ℕ} {out : Bytes} (z : Cleared out) where
-    pub queued_wrote : {put : Put} {out' : Bytes} {w' : List ℕ} {b' : Bytes} {k : ℕ} → takes ≡ true → Puts (encode (fixed_reply Queued)) out put out' → put ≡ Wrote k → Appended w w' b b' (arguments_at 0 count p s)
+    pub queued_wrote : {put : Option ℕ} {out' : Bytes} {w' : List ℕ} {b' : Bytes} {k : ℕ} → takes ≡ true → Puts (encode (fixed_reply Queued)) out put out' → put ≡ Some k → Appended w w' b b' (arguments_at 0 count p s)
         → Answered (queueing (arguments_at 0 count p s)) w w' b b' used out (record { number = 0; used = used; reply = k }) out'
     queued_wrote e q k a =
         answered_wrote h (queueing args) used z (fixed_reply Queued) (queuing (queue_in w b ++ args ∷ []) (session_from w b)) (joins e) q k a.words a.bytes
 
-    pub queued_full : {put : Put} {out' : Bytes} {r : Answer} → takes ≡ true → Puts (encode (fixed_reply Queued)) out put out' → put ≡ Full → r ≡ refusal 3
+    pub queued_full : {put : Option ℕ} {out' : Bytes} {r : Answer} → takes ≡ true → Puts (encode (fixed_reply Queued)) out put out' → put ≡ None → r ≡ refusal 3
         → Answered (queueing (arguments_at 0 count p s)) w w b b used out r out'
     queued_full {put} {out'} {r} e q f r-is =
         subst (λ (x : Answer). Answered (queueing args) w w b b used out x out') (sym r-is)

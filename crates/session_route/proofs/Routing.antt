@@ -4,13 +4,10 @@ use native.Mathlib.Omega.{arith}
 use mathlib.Core.Path.{◌≡◌, refl, sym, ap, ◌∙◌}
 use mathlib.Core.Bool.{Bool, true, false, cond}
 use mathlib.Core.List.{List}
-use mathlib.Core.Option.{Option, none, some}
+use Rattle.std.specs.Prelude.{Option, None, Some}
 use lib.ListN.{get_or}
 use Rattle.base_key.specs.Bytes.{Bytes, part}
 use Rattle.store_memtable.specs.Versions.{Store}
-use Rattle.command_spec.specs.declared.Answer.{Answer}
-use Rattle.command_spec.specs.declared.Fixed.{Fixed}
-use Rattle.command_spec.specs.declared.Fixed.TheVariants.{Ok}
 use Rattle.command_names.specs.declared.Control.{Control as Said}
 use Rattle.command_spec.specs.Names.{Args, Row, row_of, name_word, control_of, Control, MULTI, EXEC, DISCARD, WATCH, UNWATCH, QUIT, other}
 use Rattle.command_names.specs.declared.Row.{Row as CodeRow}
@@ -18,17 +15,15 @@ use Rattle.command_names.specs.Rows.{Looked, control_said}
 use Rattle.command_spec.specs.Session.{Session, says, watching, queue_up, not_queueable, outside_multi, inside_multi, respond_by, respond, marked}
 use Rattle.command_spec.specs.Sessions.{yes?, queue_in, session_from, multi_of}
 use Rattle.command_spec.specs.Errors.{fixed_reply}
-use Rattle.command_spec.specs.Held.{Held, cleared, opened, unwatched}
 use Rattle.command_spec.specs.Places.{arguments_at}
 use Rattle.command_spec.proofs.LayoutLaws.{flag_zero}
-use Rattle.session_route.specs.declared.routes.Step.{Step}
-use Rattle.session_route.specs.declared.routes.Step.TheVariants.{Open, Unwatch, Clear, Reply}
+use Rattle.session_route.specs.declared.routes.Step.TheVariants.{Open}
 use Rattle.session_route.specs.declared.routes.Route.{Route}
 use Rattle.session_route.specs.declared.routes.Route.TheVariants.{Here}
 use Rattle.session_route.specs.declared.routes.Way.{Way}
 use Rattle.session_route.specs.declared.routes.Way.TheVariants.{Steer, Queue, NotQueueable}
-use Rattle.session_route.specs.Answers.{changing, same, Steered, Unchanged}
-use Rattle.session_route.specs.Routes.{outside_route, inside_route, route_by, step_done, queue_done, watching_at, watch_done, way_done, route_done, Steerable, Taken}
+use Rattle.session_route.specs.Answers.{changing}
+use Rattle.session_route.specs.Routes.{outside_route, inside_route, route_by, step_done, queue_done, watching_at, watch_done, way_done, route_done, Taken}
 
 -- the route from its table
 module _ (said : Said) {c : Control} {r : Route} (same_name : control_said said ≡ c) where
@@ -51,7 +46,7 @@ outside_branch UNWATCH r a st s = refl
 outside_branch QUIT r a st s = refl
 outside_branch other r a st s = refl
 
-inside_branch : (c : Control) (q : List Args) (r : Row) (a : Args) (st : Store) (s : Session) → s.queue ≡ some q → inside_multi c q r a st s ≡ route_done (inside_route c r.queueable) r a st s
+inside_branch : (c : Control) (q : List Args) (r : Row) (a : Args) (st : Store) (s : Session) → s.queue ≡ Some q → inside_multi c q r a st s ≡ route_done (inside_route c r.queueable) r a st s
 unfolding inside_multi inside_route route_done way_done step_done changing fixed_reply queue_done
 inside_branch MULTI q r a st s e = refl
 inside_branch EXEC q r a st s e = rw e
@@ -70,8 +65,8 @@ unfolding respond_by route_by
 respond_routed r a st s = go s.queue refl
   where
     go : (q : Option (List Args)) → s.queue ≡ q → respond_by q r a st s ≡ route_done (route_by (multi_of q) (control_of r.name) r.queueable) r a st s
-    go none e = outside_branch (control_of r.name) r a st s
-    go (some q) e = inside_branch (control_of r.name) q r a st s e
+    go None e = outside_branch (control_of r.name) r a st s
+    go (Some q) e = inside_branch (control_of r.name) q r a st s e
 
 -- THE REQUEST. The arguments' name, and the session's flag
 pub name_first : (count : ℕ) (places : List ℕ) (input : Bytes) → 1 ≤ count → name_word (arguments_at 0 count places input) ≡ part (get_or places 0 0) (get_or places 1 0) input
@@ -83,7 +78,7 @@ flag_read : (w : List ℕ) (b : Bytes) → multi_of (session_from w b).queue ≡
 unfolding session_from
 flag_read w b = go (get_or w 0 0)
   where
-    go : (n : ℕ) → multi_of (cond (yes? n) (some (queue_in w b)) none) ≡ yes? n
+    go : (n : ℕ) → multi_of (cond (yes? n) (Some (queue_in w b)) None) ≡ yes? n
     go zero = refl
     go (suc n) = refl
 
@@ -131,30 +126,3 @@ module _ (w : List ℕ) (c : Control) (q : Bool) {route : Route} (e : route ≡ 
     outside = λ g. flag_zero (get_or w 0 0) (outside_said (yes? (get_or w 0 0)) c q (sym e ∙ f ∙ ap Here g));
     inside = λ g. flag_set (get_or w 0 0) (inside_said (yes? (get_or w 0 0)) c q (sym e ∙ f ∙ ap Here g));
   }
-
--- THE STEPS, each in its arm
-pub step_asks : {way : Way} {step : Step} {w : List ℕ} {b : Bytes} → Held w b → Taken way w → way ≡ Steer step → Steerable step w
-step_asks h t e = record { words = h.words; outside = λ f. t.outside (e ∙ ap Steer f) }
-
-pub queue_inside : {way : Way} {w : List ℕ} → Taken way w → way ≡ Queue → get_or w 0 0 ≡ 0 → ⊥
-queue_inside t e = t.inside e
-
-pub open_outside : {step : Step} {w : List ℕ} → Steerable step w → step ≡ Open → get_or w 0 0 ≡ 0
-open_outside a e = a.outside e
-
-module _ {step : Step} {w w' : List ℕ} {used : ℕ} {out out' : Bytes} {r : Answer} where
-  pub step_open : step ≡ Open → Steered (changing (fixed_reply Ok) opened) w w' used out r out' → Steered (step_done step) w w' used out r out'
-  unfolding step_done
-  step_open e a = rw e a
-
-  pub step_unwatch : step ≡ Unwatch → Steered (changing (fixed_reply Ok) unwatched) w w' used out r out' → Steered (step_done step) w w' used out r out'
-  unfolding step_done
-  step_unwatch e a = rw e a
-
-  pub step_clear : step ≡ Clear → Steered (changing (fixed_reply Ok) cleared) w w' used out r out' → Steered (step_done step) w w' used out r out'
-  unfolding step_done
-  step_clear e a = rw e a
-
-pub step_reply : {step : Step} {w : List ℕ} {used : ℕ} {out out' : Bytes} {r : Answer} {f : Fixed} → step ≡ Reply f → Unchanged (changing (fixed_reply f) same) used out r out' → Steered (step_done step) w w used out r out'
-unfolding step_done
-step_reply {w = w} e a = rw e (record { is = λ b h. a.is w b h })

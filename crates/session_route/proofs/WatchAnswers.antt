@@ -8,16 +8,12 @@ use borrow.Author.Tests.{le-leb}
 use lib.ListN.{length, length-map}
 use Rattle.base_key.specs.Bytes.{Bytes, part, total}
 use Rattle.base_key.specs.Keys.{Key}
-use Rattle.base_writing.specs.declared.Put.{Put}
-use Rattle.base_writing.specs.declared.Put.TheVariants.{Wrote, Full}
 use Rattle.base_writing.specs.Puts.{Puts}
 use Rattle.resp_spec.specs.Reply.{Reply, encode, ok}
 use Rattle.store_memtable.specs.Table.{Entry}
 use Rattle.store_memtable.specs.Versions.{Store}
 use Rattle.command_spec.specs.declared.Answer.{Answer}
 use Rattle.command_spec.specs.declared.Fixed.TheVariants.{Ok}
-use Rattle.command_spec.specs.declared.watched.Grown.{Grown}
-use Rattle.command_spec.specs.declared.watched.Grown.TheVariants as grown
 use Rattle.command_spec.specs.Names.{row_of, count_right, arity}
 use Rattle.command_names.specs.declared.Row.{Row as CodeRow}
 use Rattle.command_names.specs.Rows.{row_meant, Looked}
@@ -38,6 +34,7 @@ use Rattle.session_route.specs.Routes.{watching_at, watch_done}
 use Rattle.session_route.specs.Watches.{Keeps}
 use Rattle.command_answer.proofs.Finish.{Cleared}
 use Rattle.session_route.proofs.Answering.{answered_same, answered_wrote, answered_full, answered_number}
+use Rattle.std.specs.Prelude.{Option, None, Some}
 
 -- the two branches, by whether the keys fit
 fits_watched : (ks : List Key) (last : ℕ) (st : Store) (s : Session) → watch_fits (watched_keys (add_keys last ks s.watch)) ≡ true
@@ -55,8 +52,8 @@ holding_fits {js} g =
     rw (le-leb (length (watched_keys js)) 32 (omega (arith, length-map js (λ (e : Entry ℕ). e.0), g.few)), le-leb (total (map length (watched_keys js))) 2048 g.short)
 
 module _ {w : List ℕ} {b : Bytes} (h : Held w b) {lens seqs : List ℕ} {text : Bytes} (a : length lens ≡ 32) (d : length seqs ≡ 32) (c : length text ≡ 2048) (count used : ℕ) {out : Bytes} (z : Cleared out)
-    {put : Put} {out' : Bytes} (p : Puts (encode (fixed_reply Ok)) out put out') where
-  pub keeps_wrote : {w' : List ℕ} {b' : Bytes} {k : ℕ} → put ≡ Wrote k → WatchPut lens seqs text count w w' b b'
+    {put : Option ℕ} {out' : Bytes} (p : Puts (encode (fixed_reply Ok)) out put out') where
+  pub keeps_wrote : {w' : List ℕ} {b' : Bytes} {k : ℕ} → put ≡ Some k → WatchPut lens seqs text count w w' b b'
       → Keeps lens seqs text count w w' b b' used out (record { number = 0; used = used; reply = k }) out'
   keeps_wrote e kept = record {
     is = λ ks last u g.
@@ -64,7 +61,7 @@ module _ {w : List ℕ} {b : Bytes} (h : Held w b) {lens seqs : List ℕ} {text 
         answered_wrote h (watching_at ks last) used z (fixed_reply Ok) (watching_with ks last (session_from w b)) (λ st. fits_watched ks last st (session_from w b) (holding_fits g)) p e all.words all.bytes;
   }
 
-  pub keeps_full : {r : Answer} → put ≡ Full → r ≡ refusal 3 → Keeps lens seqs text count w w b b used out r out'
+  pub keeps_full : {r : Answer} → put ≡ None → r ≡ refusal 3 → Keeps lens seqs text count w w b b used out r out'
   keeps_full {r} e r-is = record {
     is = λ ks last u g.
         subst (λ (x : Answer). Answered (watching_at ks last) w w b b used out x out') (sym r-is)
@@ -72,15 +69,15 @@ module _ {w : List ℕ} {b : Bytes} (h : Held w b) {lens seqs : List ℕ} {text 
   }
 
 -- from what adding the keys gave
-module _ {w : List ℕ} {b : Bytes} (h : Held w b) (ks : List Key) (last : ℕ) {used : ℕ} {out : Bytes} (z : Cleared out) (lens seqs : List ℕ) (text : Bytes) {grows : Grown}
+module _ {w : List ℕ} {b : Bytes} (h : Held w b) (ks : List Key) (last : ℕ) {used : ℕ} {out : Bytes} (z : Cleared out) (lens seqs : List ℕ) (text : Bytes) {grows : Option (ℕ × ℕ)}
     (g : GrownTo (add_keys last ks (session_from w b).watch) (part 4 32 w) lens (part 36 32 w) seqs (part 0 2048 b) text grows) where
-  pub watch_refused : {r : Answer} → grows ≡ grown.Full → r ≡ refusal 5 → Answered (watching_at ks last) w w b b used out r out
+  pub watch_refused : {r : Answer} → grows ≡ None → r ≡ refusal 5 → Answered (watching_at ks last) w w b b used out r out
   watch_refused {r} e r-is =
       let none-fit = grown_full (add_keys last ks (session_from w b).watch) (part 4 32 w) lens (part 36 32 w) seqs (part 0 2048 b) text g e in
       subst (λ (x : Answer). Answered (watching_at ks last) w w b b used out x out) (sym r-is)
       (answered_number h (watching_at ks last) used z 5 (session_from w b) (λ st. no_room ks last st (session_from w b) none-fit) (sym (words_kept h)) (sym (bytes_kept h)))
 
-  pub watch_kept : {n u : ℕ} {w' : List ℕ} {b' : Bytes} {r : Answer} {out' : Bytes} → grows ≡ grown.To n u → Keeps lens seqs text n w w' b b' used out r out'
+  pub watch_kept : {n u : ℕ} {w' : List ℕ} {b' : Bytes} {r : Answer} {out' : Bytes} → grows ≡ Some (n, u) → Keeps lens seqs text n w w' b b' used out r out'
       → Answered (watching_at ks last) w w' b b' used out r out'
   watch_kept {n} {u} e k = k.is ks last u (grown_holding (add_keys last ks (session_from w b).watch) (part 4 32 w) lens (part 36 32 w) seqs (part 0 2048 b) text g e)
 

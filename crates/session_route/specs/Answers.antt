@@ -3,13 +3,13 @@ use Rattle.std.specs.Prelude.{ℕ, ◌≡◌, List, length, replicate}
 use Rattle.base_key.specs.Bytes.{Bytes}
 use Rattle.store_memtable.specs.Versions.{Store}
 use Rattle.command_spec.specs.declared.Answer.{Answer}
-use Rattle.base_writing.specs.declared.Put.{Put}
 use Rattle.base_writing.specs.Puts.{Puts}
 use Rattle.resp_spec.specs.Reply.{Reply, encode}
 use Rattle.command_spec.specs.Session.{Session, Done, says, marked}
 use Rattle.command_spec.specs.Sessions.{session_from}
 use Rattle.command_spec.specs.Finish.{finish, Says, SessionLeft}
 use Rattle.command_spec.specs.Held.{Held}
+use Rattle.std.specs.Prelude.{Option}
 
 -- a reply, and a change of the session
 unfoldable pub changing : Reply → (Session → Session) → Store → Session → Done
@@ -38,7 +38,7 @@ pub record Steered (done : Store → Session → Done) (w w' : List ℕ) (used :
   pub is : (b : Bytes) → Held w b → Answered done w w' b b used out r out'
 
 -- an error that was put, whichever it is, marks the session
-pub record Marks (put : Put) (used : ℕ) (w w' : List ℕ) (r : Answer) : Type 0 where
+pub record Marks (put : Option ℕ) (used : ℕ) (w w' : List ℕ) (r : Answer) : Type 0 where
   pub steered : (x : Reply) (out out' : Bytes) → out ≡ replicate (length out) 0 → Puts (encode x) out put out' → Steered (changing x marked) w w' used out r out'
 
 -- for a function that is lent no session: whatever its words and bytes are, they stay

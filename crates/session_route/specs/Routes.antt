@@ -2,6 +2,7 @@
 use Rattle.std.specs.Prelude.{ℕ, ◌≡◌, Bool, true, false, cond, List, length, get_or}
 use Rattle.base_key.specs.Keys.{Key}
 use Rattle.store_memtable.specs.Versions.{Store}
+use Rattle.command_spec.specs.declared.Fixed.{Fixed}
 use Rattle.command_spec.specs.declared.Fixed.TheVariants.{Ok, ExecAlone, DiscardAlone, NestedMulti, WatchInside}
 use Rattle.command_spec.specs.Names.{Args, Row, name_word, arguments, count_right, arity, Control, MULTI, EXEC, DISCARD, WATCH, UNWATCH, QUIT, other}
 use Rattle.command_spec.specs.Command.{executed_of}
@@ -42,6 +43,19 @@ inside_route other queueable = Here (cond queueable Queue NotQueueable)
 unfoldable pub route_by : Bool → Control → Bool → Route
 route_by true c queueable = inside_route c queueable
 route_by false c queueable = outside_route c
+
+-- the reply of a step, and its change
+abbrev pub reply_of : Step → Fixed
+reply_of Open = Ok
+reply_of Unwatch = Ok
+reply_of Clear = Ok
+reply_of (Reply f) = f
+
+abbrev pub change_of : Step → Session → Session
+change_of Open = opened
+change_of Unwatch = unwatched
+change_of Clear = cleared
+change_of (Reply f) = same
 
 -- WHAT EACH GIVES. A step: its reply and its change
 unfoldable pub step_done : Step → Store → Session → Done

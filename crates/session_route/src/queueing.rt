@@ -8,7 +8,6 @@ ghost use Rattle.session_route.specs.Answers.{Answered};
 ghost use Rattle.session_route.specs.Routes.{queueing, queue_done};
 
 use crate::steer;
-use base_writing::Put;
 use command_names::Row;
 use command_spec::{Answer, Fixed};
 
@@ -30,13 +29,13 @@ fn queue_command(
 {
     if session_queue::takes(words, places, count) {
         let put = command_errors::put_fixed(out, Fixed::Queued);
-        let Put::Wrote(n) = put else {
+        let Some(n) = put else {
             return command_answer::refusal(3);
         };
         session_queue::append(words, bytes, input, places, count);
         return Answer {
             number: 0,
-            used: used,
+            used,
             reply: n,
         };
     }

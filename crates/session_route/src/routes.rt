@@ -34,6 +34,7 @@ pub enum Route {
     Run,
 }
 
+#[tactic(auto, unfolding(crate::specs::Routes::outside_route))]
 fn outside(control: Control) -> Route
     ensures { result ≡ outside_route (control_said control) }
 {
@@ -48,6 +49,7 @@ fn outside(control: Control) -> Route
     }
 }
 
+#[tactic(auto, unfolding(crate::specs::Routes::inside_route))]
 fn inside(control: Control, queueable: bool) -> Route
     ensures { result ≡ inside_route (control_said control) queueable }
 {
@@ -58,12 +60,8 @@ fn inside(control: Control, queueable: bool) -> Route
         Control::Watch => Route::Here(Way::Steer(Step::Reply(Fixed::WatchInside))),
         Control::Unwatch => Route::Here(Way::NotQueueable),
         Control::Quit => Route::Here(Way::Steer(Step::Clear)),
-        Control::Other => {
-            if queueable {
-                return Route::Here(Way::Queue);
-            }
-            return Route::Here(Way::NotQueueable);
-        }
+        Control::Other if queueable => Route::Here(Way::Queue),
+        Control::Other => Route::Here(Way::NotQueueable),
     }
 }
 

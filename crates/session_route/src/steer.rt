@@ -3,81 +3,48 @@ ghost use Rattle.std.specs.Prelude.{◌≡◌, length, get_or, replicate};
 ghost use Rattle.command_spec.specs.declared.Fixed.TheVariants as fixed;
 ghost use Rattle.command_spec.specs.Session.{marked, not_queueable};
 ghost use Rattle.command_spec.specs.Errors.{fixed_reply, arity_of};
-ghost use Rattle.command_spec.specs.Held.{cleared, opened, unwatched};
+ghost use Rattle.command_spec.specs.Held.{Left};
 ghost use Rattle.session_route.specs.Answers.{changing, Steered, Marks};
-ghost use Rattle.session_route.specs.Routes.{step_done, Steerable};
+ghost use Rattle.session_route.specs.Routes.{change_of, reply_of, step_done, Steerable};
 
-use crate::answers;
 use crate::routes::Step;
-use base_writing::Put;
 use command_spec::{Answer, Fixed};
 
-// MULTI outside MULTI: an empty queue, and no mark.
-fn open(words: &mut [u64], out: &mut [u8], used: usize) -> Answer
-    requires words_len { (length words.old ≡ 644) × (get_or words.old 0 0 ≡ 0) }
-    requires out_value { out.old ≡ replicate (length out.old) 0 }
-    ensures { Steered (changing (fixed_reply fixed.Ok) opened) words.old words.new used out.old result out.new }
+// The reply of a step.
+fn reply_of(step: Step) -> Fixed
+    ensures { result ≡ reply_of step }
 {
-    let put = command_errors::put_fixed(out, Fixed::Ok);
-    let Put::Wrote(n) = put else {
-        return command_answer::refusal(3);
-    };
-    session_flags::open_multi(words);
-    Answer {
-        number: 0,
-        used: used,
-        reply: n,
+    match step {
+        Step::Reply(which) => which,
+        _ => Fixed::Ok,
     }
 }
 
-// UNWATCH outside MULTI.
-fn unwatch(words: &mut [u64], out: &mut [u8], used: usize) -> Answer
-    requires words_len { length words.old ≡ 644 }
-    requires out_value { out.old ≡ replicate (length out.old) 0 }
-    ensures { Steered (changing (fixed_reply fixed.Ok) unwatched) words.old words.new used out.old result out.new }
+// The change of the session's head that a step makes.
+fn change(step: Step, words: &mut [u64])
+    requires { Steerable step words.old }
+    ensures { Left (change_of step) words.old words.new }
 {
-    let put = command_errors::put_fixed(out, Fixed::Ok);
-    let Put::Wrote(n) = put else {
-        return command_answer::refusal(3);
-    };
-    session_flags::unwatch(words);
-    Answer {
-        number: 0,
-        used: used,
-        reply: n,
-    }
-}
-
-// QUIT, and DISCARD inside MULTI: queue, watch and mark are dropped.
-fn clear(words: &mut [u64], out: &mut [u8], used: usize) -> Answer
-    requires words_len { length words.old ≡ 644 }
-    requires out_value { out.old ≡ replicate (length out.old) 0 }
-    ensures { Steered (changing (fixed_reply fixed.Ok) cleared) words.old words.new used out.old result out.new }
-{
-    let put = command_errors::put_fixed(out, Fixed::Ok);
-    let Put::Wrote(n) = put else {
-        return command_answer::refusal(3);
-    };
-    session_flags::clear(words);
-    Answer {
-        number: 0,
-        used: used,
-        reply: n,
+    match step {
+        Step::Open => session_flags::open_multi(words),
+        Step::Unwatch => session_flags::unwatch(words),
+        Step::Clear => session_flags::clear(words),
+        Step::Reply(_) => {}
     }
 }
 
 // The answer of an error that was put: it marks the session failed.
-fn mark_put(words: &mut [u64], put: Put, used: usize) -> Answer
+fn mark_put(words: &mut [u64], put: Option<usize>, used: usize) -> Answer
     requires { length words.old ≡ 644 }
     ensures { Marks put used words.old words.new result }
 {
-    let Put::Wrote(n) = put else {
+    let Some(n) = put else {
         return command_answer::refusal(3);
     };
     session_flags::mark_failed(words);
     Answer {
         number: 0,
-        used: used,
+        used,
         reply: n,
     }
 }
@@ -118,10 +85,14 @@ pub fn steer(step: Step, words: &mut [u64], out: &mut [u8], used: usize) -> Answ
     requires out_value { out.old ≡ replicate (length out.old) 0 }
     ensures { Steered (step_done step) words.old words.new used out.old result out.new }
 {
-    match step {
-        Step::Open => open(words, out, used),
-        Step::Unwatch => unwatch(words, out, used),
-        Step::Clear => clear(words, out, used),
-        Step::Reply(which) => answers::reply_only(out, which, used),
+    let put = command_errors::put_fixed(out, reply_of(step));
+    let Some(n) = put else {
+        return command_answer::refusal(3);
+    };
+    change(step, words);
+    Answer {
+        number: 0,
+        used,
+        reply: n,
     }
 }

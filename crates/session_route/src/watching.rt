@@ -9,9 +9,7 @@ ghost use Rattle.session_route.specs.Routes.{watching_at, watch_done};
 ghost use Rattle.session_route.specs.Watches.{Keeps};
 
 use crate::answers;
-use base_writing::Put;
 use command_names::Row;
-use command_spec::watched::Grown;
 use command_spec::{Answer, Fixed};
 use session_memory::{MOST_KEY_BYTES, MOST_WATCHED};
 
@@ -32,13 +30,13 @@ fn keep_watch(
     ensures { Keeps lens.now seqs.now text.now count words.old words.new bytes.old bytes.new used out.old result out.new }
 {
     let put = command_errors::put_fixed(out, Fixed::Ok);
-    let Put::Wrote(n) = put else {
+    let Some(n) = put else {
         return command_answer::refusal(3);
     };
     session_watch::keep(words, bytes, lens, seqs, text, count);
     Answer {
         number: 0,
-        used: used,
+        used,
         reply: n,
     }
 }
@@ -67,10 +65,8 @@ fn watch_arguments(
         words, bytes, &mut lens, &mut seqs, &mut text, input, places, count, last,
     );
     match grown {
-        Grown::Full => return command_answer::refusal(5),
-        Grown::To(n, _) => {
-            return keep_watch(words, bytes, &lens, &seqs, &text, n, out, used);
-        }
+        None => command_answer::refusal(5),
+        Some((n, _)) => keep_watch(words, bytes, &lens, &seqs, &text, n, out, used),
     }
 }
 

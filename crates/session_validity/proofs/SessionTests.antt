@@ -1,15 +1,15 @@
 -- The tests of one session together, and of all sixteen. Assumes nothing.
 use mathlib.Core.Path.{◌≡◌, refl, sym, ap, ◌∙◌, subst}
-use mathlib.Core.Bool.{Bool, true, false, cond}
+use mathlib.Core.Bool.{Bool, true, false, not, cond}
 use mathlib.Core.List.{List}
 use Prim.Native.Nat.{ℕ, suc, ◌+◌, ◌-◌, ◌*◌, ◌<◌, ◌≤◌}
 use native.Mathlib.Omega.{arith}
 use borrow.Author.Tests.{le-leb, lt-leb, leb-true, leb-false}
 use lib.Dec.{leb, eqb}
+use Rattle.std.proofs.lemmas.Bool.{ne_eqb}
 use lib.ListN.{length, get_or, take, drop}
 use lib.Seq.{drop-drop}
 use Rattle.base_key.specs.Bytes.{Bytes, ◌and◌, part, total}
-use Rattle.base_key.proofs.Bytes.{length_part_lem}
 use Rattle.command_spec.specs.Sessions.{split_by, ascending, all_positive, all_queueable, yes?, none_above, keys_in, queue_in, watch_ok, queue_ok, session_ok, sessions_ok_in, valid_sessions}
 use Rattle.command_spec.specs.Lent.{capped, OneSession, KeysIn, QueueIn, queue_sizes_ok}
 use Rattle.command_spec.proofs.LayoutLaws.{flag_nonzero}
@@ -50,7 +50,7 @@ module _ (last : ℕ) (w : List ℕ) (b : Bytes) {n : ℕ} (e : n ≡ get_or w 2
       keys_in_lem o = record { words = o.words; bytes = o.bytes; few = few; room = keys_total }
 
       module _ {v : Bool} (a : v ≡ ascending (split_by (part 4 n w) (part 0 2048 b))) where
-        pub not_ascending : v ≡ false → false ≡ watch_ok last w b
+        pub not_ascending : v ≡ false → v ≡ watch_ok last w b
         unfolding watch_ok keys_in ◌and◌
         not_ascending f = rw (← e, le-leb n 32 few, le-leb (total (part 4 n w)) 2048 keys_total, ← a, f)
 
@@ -114,19 +114,19 @@ module _ (w : List ℕ) (b : Bytes) {s : Bool} (is : s ≡ queue_sizes_ok w) whe
       unfolding ◌and◌ queue_in
       queue_then f = queue_as w b ∙ rw (← is, t, ← e, ← q, f)
 
-      pub name_wrong : v ≡ false → false ≡ queue_ok w b
+      pub name_wrong : v ≡ false → v ≡ queue_ok w b
       unfolding ◌and◌ queue_in
-      name_wrong f = sym (queue_as w b ∙ rw (← is, t, ← e, ← q, f))
+      name_wrong f = f ∙ sym (queue_as w b ∙ rw (← is, t, ← e, ← q, f))
 
       pub outside : v ≡ true → get_or w 0 0 ≡ 0 → eqb n 0 ≡ queue_ok w b
       outside f z = sym (queue_then f ∙ rw z)
 
-      pub inside : v ≡ true → (get_or w 0 0 ≡ 0 → ⊥) → true ≡ queue_ok w b
-      inside f z = sym (queue_then f ∙ rw (flag_nonzero (get_or w 0 0) z))
+      pub inside : v ≡ true → (get_or w 0 0 ≡ 0 → ⊥) → not (eqb (get_or w 0 0) 0) ≡ queue_ok w b
+      inside f z = ap not (ne_eqb (get_or w 0 0) 0 z) ∙ sym (queue_then f ∙ rw (flag_nonzero (get_or w 0 0) z))
 
 -- ONE SESSION.
 module _ (last : ℕ) (w : List ℕ) (b : Bytes) {v : Bool} (a : v ≡ watch_ok last w b) where
-  pub watch_wrong : v ≡ false → false ≡ session_ok last w b
+  pub watch_wrong : v ≡ false → v ≡ session_ok last w b
   unfolding session_ok ◌and◌
   watch_wrong f = rw (← a, f)
 
@@ -156,15 +156,6 @@ unfolding valid_sessions ◌and◌
 checked_none last w b h k = record { words = h; bytes = k; within = omega arith; is = rw (le-leb 10304 (length w) h, le-leb 163840 (length b) k) }
 
 module _ {last : ℕ} {w : List ℕ} {b : Bytes} {i : ℕ} (c : Checked last w b i) where
-  pub one_session : i < 16 → OneSession (part (i * 644) (i * 644 + 644 - i * 644) w) (part (i * 10240) (i * 10240 + 10240 - i * 10240) b)
-  one_session h =
-      let e : i * 644 + 644 - i * 644 ≡ 644 = omega arith in
-      let f : i * 10240 + 10240 - i * 10240 ≡ 10240 = omega arith in
-      record {
-        words = ap (λ (n : ℕ). length (part (i * 644) n w)) e ∙ length_part_lem (i * 644) 644 w (omega (arith, c.words));
-        bytes = ap (λ (n : ℕ). length (part (i * 10240) n b)) f ∙ length_part_lem (i * 10240) 10240 b (omega (arith, c.bytes));
-      }
-
   module _ (h : i < 16) {v : Bool} (a : v ≡ session_ok last (part (i * 644) (i * 644 + 644 - i * 644) w) (part (i * 10240) (i * 10240 + 10240 - i * 10240) b)) where
     checked_session : v ≡ session_ok last (take 644 (drop (i * 644) w)) (take 10240 (drop (i * 10240) b))
     checked_session =

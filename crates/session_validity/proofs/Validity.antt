@@ -1,75 +1,48 @@
 -- Laws of the tests of one session: sequences within the last, positive counts, ascending keys, queued names. Assumes nothing.
 use mathlib.Core.Path.{◌≡◌, refl, sym, ap, ◌∙◌, subst}
-use mathlib.Core.Bool.{Bool, true, false}
+use mathlib.Core.Bool.{Bool, true, false, not, ◌&&◌}
 use mathlib.Core.List.{List, [], ◌∷◌, ◌++◌}
 use Prim.Native.Nat.{ℕ, zero, suc, ◌+◌, ◌-◌, ◌<◌, ◌≤◌}
 use native.Mathlib.Nat.{add_assoc, zero-add}
 use native.Mathlib.Omega.{arith}
-use borrow.Author.Tests.{le-leb, lt-leb}
-use lib.Dec.{leb}
+use lib.Dec.{leb, eqb, eqb-suc-zero}
 use lib.ListN.{length, get_or, take, drop}
 use lib.Seq.{drop-drop}
+use Rattle.std.specs.List.{list_all}
 use Rattle.base_key.specs.Bytes.{Bytes, ◌and◌, part, total}
 use Rattle.base_key.proofs.Bytes.{length_part_lem}
-use Rattle.base_key.specs.Keys.{key_below}
-use Rattle.command_spec.specs.Names.{Row, row_of, name_word, arguments, may_queue, request_queueable}
-use Rattle.command_names.specs.declared.Row.{Row as CodeRow}
-use Rattle.command_names.specs.Rows.{row_meant, Looked}
-use Rattle.command_spec.specs.Sessions.{split_by, ascending, ascending_after, all_positive, all_queueable, yes?, none_above}
+use Rattle.base_key.specs.Keys.{Key, compare_keys, key_below}
+use Rattle.command_spec.proofs.OrderLaws.{below_equal, below_greater}
+use Rattle.command_spec.specs.Names.{row_of, name_word, arguments, may_queue, request_queueable}
+use Rattle.command_spec.specs.Sessions.{split_by, ascending, ascending_after, all_positive, all_queueable, none_above}
 use Rattle.command_spec.specs.Lent.{capped, KeysIn, QueueIn}
-use Rattle.command_spec.proofs.LayoutLaws.{flag_nonzero}
 use Rattle.command_spec.proofs.Parts.{part_cons, total_append, part_next, part_none, part_start, part_part, part_add, take_part, drop_part, split_drop}
 use Rattle.session_memory.proofs.Sums.{capped_low}
+use Rattle.std.specs.declared.cmp.Ordering.TheVariants.{Less, Equal, Greater}
+use Rattle.std.specs.declared.cmp.Ordering.{Ordering}
 
--- THE SEQUENCES: those before i are not above the last.
-pub record Within (last : ℕ) (w : List ℕ) (count i : ℕ) : Type 0 where
-  pub within : i ≤ count
-  pub is : none_above last (part 36 count w) ≡ none_above last (part (36 + i) (count - i) w)
+-- THE TESTS OF EACH WORD.
+and_is : (a b : Bool) → (a && b) ≡ (a and b)
+unfolding ◌and◌
+and_is true b = refl
+and_is false b = refl
 
-pub within_none : (last : ℕ) (w : List ℕ) (count : ℕ) → Within last w count 0
-within_none last w count = record { within = omega arith; is = ap (none_above last) (part_start w 36 count) }
+pub none_above_is : (last : ℕ) (l : List ℕ) → list_all (λ n. leb n last) l ≡ none_above last l
+unfolding none_above
+none_above_is last [] = refl
+none_above_is last (n ∷ l) = and_is (leb n last) (list_all (λ n. leb n last) l) ∙ ap (λ (v : Bool). leb n last and v) (none_above_is last l)
 
-module _ {last : ℕ} {w : List ℕ} {count i : ℕ} (p : Within last w count i) where
-  within_next : i < count → 36 + count ≤ length w → none_above last (part 36 count w) ≡ (leb (get_or w (36 + i) 0) last and none_above last (part (36 + (i + 1)) (count - (i + 1)) w))
-  unfolding none_above
-  within_next h k = p.is ∙ ap (none_above last) (part_next w 36 count i 0 h k)
+pub all_positive_is : (l : List ℕ) → list_all (λ n. not (eqb n 0)) l ≡ all_positive l
+unfolding all_positive ◌and◌
+all_positive_is [] = refl
+all_positive_is (zero ∷ l) = refl
+all_positive_is (suc n ∷ l) = rw eqb-suc-zero (all_positive_is l)
 
-  pub within_more : get_or w (36 + i) 0 ≤ last → i < count → 36 + count ≤ length w → Within last w count (i + 1)
-  unfolding ◌and◌
-  within_more l h k = record { within = omega arith; is = within_next h k ∙ rw (le-leb (get_or w (36 + i) 0) last l) }
-
-  pub above_here : last < get_or w (36 + i) 0 → i < count → 36 + count ≤ length w → false ≡ none_above last (part 36 count w)
-  unfolding ◌and◌
-  above_here l h k = sym (within_next h k ∙ rw (lt-leb (get_or w (36 + i) 0) last l))
-
-  pub within_all : count ≤ i → true ≡ none_above last (part 36 count w)
-  unfolding none_above
-  within_all h = sym (p.is ∙ ap (none_above last) (part_none w 36 count i h))
-
--- THE COUNTS: those before place i are not 0.
-pub record Positive (w : List ℕ) (count i : ℕ) : Type 0 where
-  pub within : i ≤ count
-  pub is : all_positive (part 68 count w) ≡ all_positive (part (68 + i) (count - i) w)
-
-pub positive_none : (w : List ℕ) (count : ℕ) → Positive w count 0
-positive_none w count = record { within = omega arith; is = ap all_positive (part_start w 68 count) }
-
-module _ {w : List ℕ} {count i : ℕ} (p : Positive w count i) where
-  pub positive_more : {n : ℕ} → n ≡ get_or w (68 + i) 0 → (n ≡ 0 → ⊥) → i < count → 68 + count ≤ length w → Positive w count (i + 1)
-  unfolding all_positive ◌and◌
-  positive_more {n} e ne h k = record {
-    within = omega arith;
-    is = p.is ∙ ap all_positive (part_next w 68 count i 0 h k) ∙ ap (λ (v : Bool). v and all_positive (part (68 + (i + 1)) (count - (i + 1)) w)) (ap yes? (sym e) ∙ flag_nonzero n ne);
-  }
-
-  pub zero_here : {n : ℕ} → n ≡ get_or w (68 + i) 0 → n ≡ 0 → i < count → 68 + count ≤ length w → false ≡ all_positive (part 68 count w)
-  unfolding all_positive ◌and◌
-  zero_here {n} e z h k =
-      sym (p.is ∙ ap all_positive (part_next w 68 count i 0 h k) ∙ ap (λ (m : ℕ). yes? m and all_positive (part (68 + (i + 1)) (count - (i + 1)) w)) (sym e ∙ z))
-
-  pub positive_all : count ≤ i → true ≡ all_positive (part 68 count w)
-  unfolding all_positive
-  positive_all h = sym (p.is ∙ ap all_positive (part_none w 68 count i h))
+-- any order but `Less` is not below
+pub below_default : (a b : Key) (o : Ordering) → o ≡ compare_keys a b → (o ≡ Less → ⊥) → false ≡ key_below a b
+below_default a b Less e h = absurd (h refl)
+below_default a b Equal e h = below_equal a b e refl
+below_default a b Greater e h = below_greater a b e refl
 
 -- THE KEYS: those up to place i are ascending; the last of them lies from `start` to `end`.
 pub record Rising (w : List ℕ) (b : Bytes) (count start end i : ℕ) : Type 0 where
@@ -147,14 +120,7 @@ module _ {w : List ℕ} {b : Bytes} {count : ℕ} (k : KeysIn w b count) where
     unfolding split_by ascending_after
     risen h = sym (r.is ∙ ap (λ (l : List ℕ). ascending_after (part start (end - start) b) (split_by l (drop end (part 0 2048 b)))) (part_none w 4 count i h))
 
--- THE COMMANDS. One command, by the row of its name
-pub name_found : (w : List ℕ) (b : Bytes) (first start size : ℕ) {n : ℕ} {r : CodeRow} {v : Bool} → n ≡ get_or w (132 + first) 0 → Looked (part (2048 + start) (2048 + start + n - (2048 + start)) b) r
-    → v ≡ may_queue (row_meant r) (size - 1) → v ≡ may_queue (row_of (part (2048 + start) (get_or w (132 + first) 0) b)) (size - 1)
-name_found w b first start size {n} {r} e l q =
-    let m : 2048 + start + n - (2048 + start) ≡ get_or w (132 + first) 0 = omega arith in
-    q ∙ ap (λ (x : Row). may_queue x (size - 1)) l.is ∙ ap (λ (k : ℕ). may_queue (row_of (part (2048 + start) k b)) (size - 1)) m
-
--- the commands before place i may be queued; `first` is the next one's first argument, and `start` where that starts
+-- THE COMMANDS: the commands before place i may be queued; `first` is the next one's first argument, and `start` where that starts
 pub record Naming (w : List ℕ) (b : Bytes) (count first start i : ℕ) : Type 0 where
   pub within : i ≤ count
   pub arguments : first + total (part (68 + i) (count - i) w) ≤ 512

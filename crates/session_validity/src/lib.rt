@@ -8,11 +8,11 @@ ghost use Rattle.command_spec.specs.Names.{row_of, may_queue};
 ghost use Rattle.command_spec.specs.Sessions.{split_by, ascending, all_positive, all_queueable, none_above, watch_ok, queue_ok, session_ok, valid_sessions};
 ghost use Rattle.command_spec.specs.Lent.{OneSession, KeysIn, QueueIn, queue_sizes_ok};
 
-use base_key::Order;
 use session_memory::{
-    ARGUMENTS, BYTES, COUNTS, IN_MULTI, KEY_LENGTHS, LENGTHS, MOST_ARGUMENT_BYTES, MOST_ARGUMENTS,
-    MOST_KEY_BYTES, MOST_QUEUED, MOST_WATCHED, QUEUED, WATCHED, WORDS,
+    ARGUMENTS, BYTES, COUNTS, IN_MULTI, KEY_LENGTHS, KEY_SEQUENCES, LENGTHS, MOST_ARGUMENT_BYTES,
+    MOST_ARGUMENTS, MOST_KEY_BYTES, MOST_QUEUED, MOST_WATCHED, QUEUED, WATCHED, WORDS,
 };
+use std::cmp::Ordering;
 
 pub const SESSIONS: usize = 16;
 
@@ -21,12 +21,10 @@ fn below(bytes: &[u8], start: usize, end: usize, next: usize) -> bool
     requires { (start ≤ end) × (end ≤ next) × (next ≤ length bytes.now) }
     ensures { result ≡ key_below (part start (end - start) bytes.now) (part end (next - end) bytes.now) }
 {
-    let order = base_key::compare(&bytes[start..end], &bytes[end..next]);
-    match order {
-        Order::Less => true,
-        Order::Equal => false,
-        Order::Greater => false,
-    }
+    matches!(
+        base_key::compare(&bytes[start..end], &bytes[end..next]),
+        Ordering::Less
+    )
 }
 
 // Are the watched keys ascending?
@@ -39,16 +37,13 @@ fn keys_ascending(words: &[u64], bytes: &[u8], count: usize) -> bool
     }
     let mut start = 0;
     let mut end = session_memory::word(words, KEY_LENGTHS);
-    let mut i = 1;
-    while i < count {
+    for i in 1..count {
         let next = end + session_memory::word(words, KEY_LENGTHS + i);
-        if below(bytes, start, end, next) {
-            start = end;
-            end = next;
-            i += 1;
-        } else {
+        if !below(bytes, start, end, next) {
             return false;
         }
+        start = end;
+        end = next;
     }
     true
 }
@@ -58,14 +53,9 @@ fn sequences_within(words: &[u64], count: usize, last: u64) -> bool
     requires { 36 + count ≤ length words.now }
     ensures { result ≡ none_above last (part 36 count words.now) }
 {
-    let mut i = 0;
-    while i < count {
-        if last < words[36 + i] {
-            return false;
-        }
-        i += 1;
-    }
-    true
+    words[KEY_SEQUENCES..KEY_SEQUENCES + count]
+        .iter()
+        .all(|sequence| *sequence <= last)
 }
 
 // Has each of the queued commands an argument, its name?
@@ -73,14 +63,7 @@ fn counts_positive(words: &[u64], count: usize) -> bool
     requires { 68 + count ≤ length words.now }
     ensures { result ≡ all_positive (part 68 count words.now) }
 {
-    let mut i = 0;
-    while i < count {
-        if session_memory::word(words, COUNTS + i) == 0 {
-            return false;
-        }
-        i += 1;
-    }
-    true
+    words[COUNTS..COUNTS + count].iter().all(|size| *size != 0)
 }
 
 // May the command of `size` arguments be queued as it is? Its name is argument `first` and starts at `start` of the queue's bytes.
@@ -101,16 +84,13 @@ fn commands_queueable(words: &[u64], bytes: &[u8], count: usize) -> bool
 {
     let mut first = 0;
     let mut start = 0;
-    let mut i = 0;
-    while i < count {
+    for i in 0..count {
         let size = session_memory::word(words, COUNTS + i);
-        if command_queueable(words, bytes, first, start, size) {
-            start += session_memory::sum_within(words, LENGTHS + first, size, MOST_ARGUMENT_BYTES);
-            first += size;
-            i += 1;
-        } else {
+        if !command_queueable(words, bytes, first, start, size) {
             return false;
         }
+        start += session_memory::sum_within(words, LENGTHS + first, size, MOST_ARGUMENT_BYTES);
+        first += size;
     }
     true
 }
@@ -127,10 +107,7 @@ fn watch_ok(words: &[u64], bytes: &[u8], last: u64) -> bool
     if MOST_KEY_BYTES < session_memory::sum_within(words, KEY_LENGTHS, watched, MOST_KEY_BYTES) {
         return false;
     }
-    if keys_ascending(words, bytes, watched) {
-        return sequences_within(words, watched, last);
-    }
-    false
+    keys_ascending(words, bytes, watched) && sequences_within(words, watched, last)
 }
 
 // The sizes of the queue of a session are within their limits.
@@ -159,17 +136,11 @@ fn queue_ok(words: &[u64], bytes: &[u8]) -> bool
     requires { OneSession words.now bytes.now }
     ensures { result ≡ queue_ok words.now bytes.now }
 {
-    if queue_fits(words) {
-        let queued = session_memory::word(words, QUEUED);
-        if commands_queueable(words, bytes, queued) {
-            if words[IN_MULTI] == 0 {
-                return queued == 0;
-            }
-            return true;
-        }
+    if !queue_fits(words) {
         return false;
     }
-    false
+    let queued = session_memory::word(words, QUEUED);
+    commands_queueable(words, bytes, queued) && (words[IN_MULTI] != 0 || queued == 0)
 }
 
 // Is one session valid?
@@ -177,10 +148,7 @@ pub fn session_ok(words: &[u64], bytes: &[u8], last: u64) -> bool
     requires { OneSession words.now bytes.now }
     ensures { result ≡ session_ok last words.now bytes.now }
 {
-    if watch_ok(words, bytes, last) {
-        return queue_ok(words, bytes);
-    }
-    false
+    watch_ok(words, bytes, last) && queue_ok(words, bytes)
 }
 
 // Are all sixteen sessions valid, and the buffers long enough for them?
@@ -193,15 +161,10 @@ pub fn sessions_ok(words: &[u64], bytes: &[u8], last: u64) -> bool
     if bytes.len() < SESSIONS * BYTES {
         return false;
     }
-    let mut i = 0;
-    while i < SESSIONS {
+    for i in 0..SESSIONS {
         let w = i * WORDS;
         let b = i * BYTES;
-        let w_end = w + WORDS;
-        let b_end = b + BYTES;
-        if session_ok(&words[w..w_end], &bytes[b..b_end], last) {
-            i += 1;
-        } else {
+        if !session_ok(&words[w..w + WORDS], &bytes[b..b + BYTES], last) {
             return false;
         }
     }

@@ -11,30 +11,24 @@ ghost use Rattle.command_spec.specs.Held.{Held};
 ghost use Rattle.command_spec.specs.Places.{arguments_at, PartsIn};
 ghost use Rattle.command_spec.specs.Watch.{KeysAt, inserted_at, Spotted, GrownTo, WatchTable, watch_of, WatchPut};
 
-use base_key::Order;
-use command_spec::watched::{Grown, Spot};
-use session_memory::{KEY_LENGTHS, KEY_SEQUENCES, MOST_KEY_BYTES, MOST_WATCHED, WATCHED};
+use session_memory::{COUNTS, KEY_LENGTHS, KEY_SEQUENCES, MOST_KEY_BYTES, MOST_WATCHED, WATCHED};
+use std::cmp::Ordering;
 use store_memtable::read;
 
-fn find_spot(lens: &[u64], text: &[u8], count: usize, name: &[u8]) -> Spot
+fn find_spot(lens: &[u64], text: &[u8], count: usize, name: &[u8]) -> Option<(usize, usize)>
     requires { KeysAt lens.now text.now count }
     ensures { Spotted lens.now text.now count name.now result }
 {
     let mut start = 0;
-    let mut i = 0;
-    while i < count {
+    for i in 0..count {
         let end = start + session_memory::word(lens, i);
-        let order = base_key::compare(name, &text[start..end]);
-        match order {
-            Order::Less => return Spot::At(i, start),
-            Order::Equal => return Spot::There,
-            Order::Greater => {
-                start = end;
-                i += 1;
-            }
+        match base_key::compare(name, &text[start..end]) {
+            Ordering::Less => return Some((i, start)),
+            Ordering::Equal => return None,
+            Ordering::Greater => start = end,
         }
     }
-    Spot::At(i, start)
+    Some((count, start))
 }
 
 // Puts a word between the first `count`, at `at`.
@@ -42,11 +36,7 @@ fn insert_word(lens: &mut [u64], at: usize, count: usize, value: u64)
     requires { (at ≤ count) × (count + 1 ≤ length lens.old) }
     ensures { lens.new ≡ over_front (inserted_at at (value ∷ []) (take count lens.old)) lens.old }
 {
-    let mut j = count;
-    while at < j {
-        j -= 1;
-        lens[j + 1] = lens[j];
-    }
+    lens.copy_within(at..count, at + 1);
     lens[at] = value;
 }
 
@@ -59,7 +49,7 @@ fn insert_bytes(text: &mut [u8], at: usize, used: usize, name: &[u8])
     base_writing::put_at(text, at, name);
 }
 
-// Adds a key with the sequence `last` in its place, unless it is there; `Full` if there is no room for it.
+// Adds a key with the sequence `last` in its place, unless it is there; None if there is no room for it.
 fn add_key(
     lens: &mut [u64],
     seqs: &mut [u64],
@@ -68,30 +58,29 @@ fn add_key(
     used: usize,
     last: u64,
     name: &[u8],
-) -> Grown
+) -> Option<(usize, usize)>
     requires { WatchTable lens.old seqs.old text.old count used }
     ensures { GrownTo (add_key last name.now (watch_of lens.old seqs.old text.old count)) lens.old lens.new seqs.old seqs.new text.old text.new result }
 {
-    let spot = find_spot(lens, text, count, name);
-    match spot {
-        Spot::There => Grown::To(count, used),
-        Spot::At(i, start) => {
+    match find_spot(lens, text, count, name) {
+        None => Some((count, used)),
+        Some((i, start)) => {
             if MOST_WATCHED <= count {
-                return Grown::Full;
+                return None;
             }
             let len = name.len();
             if MOST_KEY_BYTES - used < len {
-                return Grown::Full;
+                return None;
             }
             insert_word(lens, i, count, len as u64);
             insert_word(seqs, i, count, last);
             insert_bytes(text, start, used, name);
-            return Grown::To(count + 1, used + len);
+            Some((count + 1, used + len))
         }
     }
 }
 
-// Adds the keys of the places from `from` to `to`, each in its place; `Full` if there is no room for them all.
+// Adds the keys of the places from `from` to `to`, each in its place; None if there is no room for them all.
 fn add_keys(
     lens: &mut [u64],
     seqs: &mut [u64],
@@ -103,7 +92,7 @@ fn add_keys(
     places: &[u64],
     from: usize,
     to: usize,
-) -> Grown
+) -> Option<(usize, usize)>
     requires watch_table { WatchTable lens.old seqs.old text.old count used }
     requires parts_in { PartsIn places.now input.now to }
     requires from_le_to { from ≤ to }
@@ -111,36 +100,21 @@ fn add_keys(
 {
     let mut n = count;
     let mut u = used;
-    let mut i = from;
-    while i < to {
+    for i in from..to {
         let start = session_memory::word(places, 2 * i);
         let end = start + session_memory::word(places, 2 * i + 1);
-        let grown = add_key(lens, seqs, text, n, u, last, &input[start..end]);
-        match grown {
-            Grown::Full => return Grown::Full,
-            Grown::To(keys, size) => {
+        match add_key(lens, seqs, text, n, u, last, &input[start..end]) {
+            None => return None,
+            Some((keys, size)) => {
                 n = keys;
                 u = size;
-                i += 1;
             }
         }
     }
-    Grown::To(n, u)
+    Some((n, u))
 }
 
-// Writes `src` into `dst` at `at`.
-fn put_words(dst: &mut [u64], at: usize, src: &[u64])
-    requires { at + length src.now ≤ length dst.old }
-    ensures { dst.new ≡ put_at at src.now dst.old }
-{
-    let mut i = 0;
-    while i < src.len() {
-        dst[at + i] = src[i];
-        i += 1;
-    }
-}
-
-// Adds the keys of the places behind the first to the watched ones, in working memory; `Full` if there is no room for them all.
+// Adds the keys of the places behind the first to the watched ones, in working memory; None if there is no room for them all.
 pub fn grow(
     words: &[u64],
     bytes: &[u8],
@@ -151,7 +125,7 @@ pub fn grow(
     places: &[u64],
     count: usize,
     last: u64,
-) -> Grown
+) -> Option<(usize, usize)>
     requires held { Held words.now bytes.now }
     requires parts_in { PartsIn places.now input.now count }
     requires le_count { (1 ≤ count) × (length lens.old ≡ 32) × (length seqs.old ≡ 32) × (length text.old ≡ 2048) }
@@ -159,9 +133,9 @@ pub fn grow(
 {
     let watched = session_memory::word(words, WATCHED);
     let used = session_memory::sum_within(words, KEY_LENGTHS, watched, MOST_KEY_BYTES);
-    put_words(lens, 0, &words[4..36]);
-    put_words(seqs, 0, &words[36..68]);
-    base_writing::put_at(text, 0, &bytes[0..MOST_KEY_BYTES]);
+    lens.copy_from_slice(&words[KEY_LENGTHS..KEY_SEQUENCES]);
+    seqs.copy_from_slice(&words[KEY_SEQUENCES..COUNTS]);
+    text.copy_from_slice(&bytes[..MOST_KEY_BYTES]);
     add_keys(
         lens, seqs, text, watched, used, last, input, places, 1, count,
     )
@@ -180,9 +154,9 @@ pub fn keep(
     requires lens_len { (length lens.now ≡ 32) × (length seqs.now ≡ 32) × (length text.now ≡ 2048) }
     ensures { WatchPut lens.now seqs.now text.now count words.old words.new bytes.old bytes.new }
 {
-    put_words(words, 4, lens);
-    put_words(words, 36, seqs);
-    base_writing::put_at(bytes, 0, text);
+    words[KEY_LENGTHS..KEY_SEQUENCES].copy_from_slice(lens);
+    words[KEY_SEQUENCES..COUNTS].copy_from_slice(seqs);
+    bytes[..MOST_KEY_BYTES].copy_from_slice(text);
     words[WATCHED] = count as u64;
 }
 
@@ -199,15 +173,13 @@ pub fn watched_moved(
 {
     let count = session_memory::word(session_words, WATCHED);
     let mut start = 0;
-    let mut i = 0;
-    while i < count {
+    for i in 0..count {
         let end = start + session_memory::word(session_words, KEY_LENGTHS + i);
         let seq = session_words[KEY_SEQUENCES + i];
         if read::moved(words, bytes, &session_bytes[start..end], seq) {
             return true;
         }
         start = end;
-        i += 1;
     }
     false
 }

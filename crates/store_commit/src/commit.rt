@@ -19,11 +19,7 @@ pub fn commit_one(words: &mut [u64], bytes: &mut [u8], name: &[u8], value: &[u8]
     let used = read::word(words, 1);
     let seq = words[LAST] + 1;
     let gap = name.len() + merge::kept(live, value).len();
-    let front = Front {
-        rows: rows,
-        used: used,
-        gap: gap,
-    };
+    let front = Front { rows, used, gap };
     merge::merge_one(words, bytes, name, value, live, 1, seq, front);
     merge::renew_header(words, rows + 1, used + gap, seq);
 }

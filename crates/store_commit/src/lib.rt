@@ -2,6 +2,7 @@
 #![tactic(auto)]
 
 pub mod commit;
+pub mod lent;
 pub mod merge;
 pub mod open;
 pub mod valid;

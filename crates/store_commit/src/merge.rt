@@ -16,9 +16,10 @@ fn start_in(words: &[u64], at: usize, rows: usize, used: usize) -> usize
     ensures { result ≡ start_in rows used words.now at }
 {
     if at < rows {
-        return read::word(words, 5 + 4 * at);
+        read::word(words, 5 + 4 * at)
+    } else {
+        used
     }
-    used
 }
 
 // Writes `src` into `dst` at `at`.
@@ -34,6 +35,7 @@ fn write_row(words: &mut [u64], at: usize, start: u64, key_len: u64, value_word:
     requires { at + 4 ≤ length words.old }
     ensures { words.new ≡ put_at at (start ∷ key_len ∷ value_word ∷ seq ∷ []) words.old }
 {
+    // A `copy_from_slice` of an array of the four was tried: it goes by way of the stack, and took three times as long.
     words[at] = start;
     words[at + 1] = key_len;
     words[at + 2] = value_word;
@@ -61,9 +63,7 @@ fn move_rows(words: &mut [u64], from: usize, to: usize, by: usize, size: u64)
     requires by_index { (i : ℕ) → i < to → start_word words.old i + size < 2 ^ 64 }
     ensures { words.new ≡ rows_moved from to by size words.old }
 {
-    let mut j = to;
-    while from < j {
-        j -= 1;
+    for j in (from..to).rev() {
         move_row(words, j, by, size);
     }
 }
@@ -122,20 +122,14 @@ fn merge_bytes(
 fn value_word(live: bool, value: &[u8]) -> u64
     ensures { result ≡ word_of_value (value_if live value.now) }
 {
-    if live {
-        return read::wide(value.len() + 1);
-    }
-    0
+    if live { read::wide(value.len() + 1) } else { 0 }
 }
 
 // The bytes of what is written: none of a tombstone.
 pub fn kept<'a>(live: bool, value: &'a [u8]) -> &'a [u8]
     ensures { result.now ≡ bytes_of (value_if live value.now) }
 {
-    if live {
-        return value;
-    }
-    &value[..0]
+    if live { value } else { &[] }
 }
 
 // Merges the last of `by` writes, whose sequence is `seq`: the value, or a tombstone where the write is not live. Returns what is left in front.
@@ -154,9 +148,7 @@ pub fn merge_one(
     ensures words_after { words.new ≡ words_after (name.now, value_if live value.now) seq by front result words.old }
     ensures bytes_after { bytes.new ≡ bytes_after (name.now, value_if live value.now) front result bytes.old }
 {
-    let rows = front.rows;
-    let used = front.used;
-    let gap = front.gap;
+    let Front { rows, used, gap } = front;
     let at = read::place_in(words, bytes, rows, name, seq);
     let start = start_in(words, at, rows, used);
     let data = kept(live, value);

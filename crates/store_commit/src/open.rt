@@ -4,7 +4,6 @@ ghost use Rattle.store_memtable.specs.Layout.{buffers_hold, empty_store, leave_w
 ghost use Rattle.store_memtable.specs.Rows.{bytes_left};
 
 use crate::valid;
-use store_memtable::open::Left;
 use store_memtable::{COUNT, LAST, MOST_BYTES, MOST_VERSIONS, USED, read};
 
 // Writes the header of an empty store.
@@ -24,22 +23,22 @@ pub fn open(words: &mut [u64], bytes: &[u8], last: u64, versions: usize, size: u
     ensures value { result ≡ buffers_hold words.old bytes.now versions size }
     ensures words_after { words.new ≡ cond (buffers_hold words.old bytes.now versions size) (leave_words (empty_store last versions size) words.old) words.old }
 {
-    if valid::buffers_hold(words, bytes, versions, size) {
+    let fits = valid::buffers_hold(words, bytes, versions, size);
+    if fits {
         write_header(words, last, read::wide(versions), read::wide(size));
-        return true;
     }
-    false
+    fits
 }
 
 // What a key and a value leave of `left` bytes. It subtracts, so that no sum wraps.
-pub fn take_bytes(left: usize, key_len: usize, value_len: usize) -> Left
+pub fn take_bytes(left: usize, key_len: usize, value_len: usize) -> Option<usize>
     ensures { result ≡ bytes_left left (key_len + value_len) }
 {
     if left < key_len {
-        return Left::Short;
+        return None;
     }
     if left - key_len < value_len {
-        return Left::Short;
+        return None;
     }
-    Left::Rest(left - key_len - value_len)
+    Some(left - key_len - value_len)
 }

@@ -2,7 +2,7 @@
 use mathlib.Core.Path.{◌≡◌, refl, sym, ap, ◌∙◌}
 use mathlib.Core.Bool.{true}
 use mathlib.Core.List.{List, [], ◌∷◌, ◌++◌, append_assoc}
-use mathlib.Core.Option.{Option, none, some}
+use Rattle.std.specs.Prelude.{Option, None, Some}
 use Prim.Native.Nat.{ℕ, suc, ◌+◌, ◌-◌, ◌*◌, ◌≤◌}
 use native.Mathlib.Nat.{add-zero}
 use native.Mathlib.Omega.{arith}
@@ -25,12 +25,12 @@ get_d_from : (n k : ℕ) (l x : List ℕ) → drop n l ≡ x → get_or l (n + k
 get_d_from n k l x e = sym (get_or-drop n l k 0) ∙ ap (λ (y : List ℕ). get_or y k 0) e
 
 word_size : (x : Option Value) → word_of_value x - 1 ≡ length (bytes_of x)
-word_size none = refl
-word_size (some l) = omega arith
+word_size None = refl
+word_size (Some l) = omega arith
 
 value_back : (x : Option Value) (l t : Bytes) → l ≡ bytes_of x ++ t → value_of_word (word_of_value x) (take (word_of_value x - 1) l) ≡ x
-value_back none l t e = refl
-value_back (some m) l t e = let n : suc (length m) - 1 ≡ length m = omega arith in rw n (ap some (ap (take (length m)) e ∙ take_at m t (length m) refl))
+value_back None l t e = refl
+value_back (Some m) l t e = let n : suc (length m) - 1 ≡ length m = omega arith in rw n (ap Some (ap (take (length m)) e ∙ take_at m t (length m) refl))
 
 -- the first version of a part of the table that encodes v, vs
 module _ (w : List ℕ) (v : Version) (vs : List Version) (i pos : ℕ) (r : List ℕ) (tw : drop (5 + 4 * i) w ≡ row_words pos (v ∷ vs) ++ r) where

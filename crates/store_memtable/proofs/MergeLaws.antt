@@ -7,12 +7,12 @@ use mathlib.Core.List.{List, [], ◌∷◌, ◌++◌, append_assoc}
 use Prim.Native.Nat.{ℕ, suc, ◌+◌}
 use native.Mathlib.Omega.{arith}
 use lib.ListN.{length, take, drop, take-append-drop}
-use Rattle.base_key.specs.declared.Order.TheVariants.{Less}
 use Rattle.base_key.specs.Keys.{Key, compare_keys, is_less}
 use Rattle.base_key.proofs.Keys.{precedes, precedes_back, precedes_trans, less_is}
 use Rattle.store_memtable.specs.Table.{Write, Above, Ascending}
 use Rattle.store_memtable.specs.Versions.{Version, Store, insert, order_of, before, commit_one, commit}
 use Rattle.store_memtable.specs.Rows.{order_with, place_of, count_on}
+use Rattle.std.specs.declared.cmp.Ordering.TheVariants.{Less}
 
 -- the versions of writes, whose sequences follow l
 pub fresh : ℕ → List Write → List Version

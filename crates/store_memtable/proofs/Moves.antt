@@ -2,7 +2,6 @@
 use mathlib.Core.Path.{◌≡◌, refl, sym, ap, ◌∙◌}
 use mathlib.Core.List.{List, [], ◌∷◌, ◌++◌, append_assoc}
 use Prim.Native.Nat.{ℕ, suc, ◌+◌, ◌-◌, ◌*◌, ◌^◌, ◌≤◌, ◌<◌}
-use native.Mathlib.Nat.{le_antisymm}
 use native.Mathlib.Numerals.{add-one, add-two, add-three, add-four}
 use native.Mathlib.Omega.{arith}
 use lib.ListN.{length, get_or, take, drop, set, length-append, length-drop, take-append-drop, get_or-append}
@@ -105,17 +104,11 @@ pub rows_moving_none : (w : List ℕ) (from to by k : ℕ) → from ≤ to → R
 rows_moving_none w from to by k h = record { low = h; high = omega arith; is = sym (rows_none w to by k); same = refl }
 
 module _ {w : List ℕ} {from to by k : ℕ} {a : List ℕ} {j : ℕ} (m : RowsMoving w from to by k a j) where
-  pub rows_moved_all : j ≤ from → a ≡ rows_moved from to by k w
-  rows_moved_all h = m.is ∙ ap (λ (x : ℕ). rows_moved x to by k w) (le_antisymm h m.low)
-
   module _ (room : 5 + 4 * to + 4 * by ≤ length w) (h : from < j) where
     last_is : a ≡ rows_moved (suc (j - 1)) to by k w
     last_is = let e : j ≡ suc (j - 1) = omega arith in m.is ∙ ap (λ (x : ℕ). rows_moved x to by k w) e
 
-    -- the row that moves next is there, and its start fits
-    pub row_room : 5 + 4 * (j - 1) + 4 * by + 4 ≤ length a
-    row_room = omega arith
-
+    -- the start of the row that moves next fits
     pub row_start_fits : ((i : ℕ) → i < to → get_or w (5 + 4 * i) 0 + k < 2 ^ 64) → get_or a (5 + 4 * (j - 1)) 0 + k < 2 ^ 64
     row_start_fits fits =
         let e : get_or a (5 + 4 * (j - 1)) 0 ≡ get_or w (5 + 4 * (j - 1)) 0 = ap (λ (x : List ℕ). get_or x (5 + 4 * (j - 1)) 0) last_is ∙ rows_read w to by k (j - 1) (omega arith) room (5 + 4 * (j - 1)) (omega arith) in

@@ -3,24 +3,21 @@ use mathlib.Core.Path.{◌≡◌, refl, sym, ap, ◌∙◌, subst}
 use mathlib.Core.Logic.{⊎_elim}
 use mathlib.Core.Bool.{Bool, true, false, cond}
 use mathlib.Core.List.{List, [], ◌∷◌}
-use mathlib.Core.Option.{none, some}
-use Prim.Native.Nat.{ℕ, zero, suc, ◌+◌, ◌-◌, ◌*◌, ◌/◌, ◌≤◌, ◌<◌}
+use Rattle.std.specs.Prelude.{None, Some}
+use Prim.Native.Nat.{ℕ, zero, suc, ◌+◌, ◌-◌, ◌*◌, ◌≤◌, ◌<◌}
 use native.Mathlib.Nat.{add-sub_cancel_left, sub-zero, zero-add, add-zero, eq-or-lt_of_le}
 use native.Mathlib.Omega.{arith}
 use lib.ListN.{length, take, drop}
 use lib.Dec.{ltb, eqb}
-use borrow.Author.Tests.{ne_eqb}
-use Rattle.base_key.specs.declared.Order.{Order}
-use Rattle.base_key.specs.declared.Order.TheVariants.{Less, Equal, Greater}
-use Rattle.base_key.specs.Keys.{Key, order_of_versions, is_less, same_key}
+use borrow.Author.Tests.{ne_eqb, lt-ltb, le-ltb}
+use Rattle.base_key.specs.Keys.{Key, is_less, same_key}
 use Rattle.base_key.proofs.Keys.{precedes, precedes_back, precedes_trans, less_is}
-use Rattle.store_memtable.specs.declared.Found.{Found}
-use Rattle.store_memtable.specs.declared.Found.TheVariants.{At, Nothing}
-use Rattle.store_memtable.specs.Versions.{Version, bytes_of, order_of, sorted, sees, find_from, newest, moved, read_at}
+use Rattle.store_memtable.specs.Versions.{Version, bytes_of, sorted, sees, find_from, newest, read_at}
 use Rattle.store_memtable.specs.Layout.{count_word, start_word, key_word, value_word, seq_word, value_of_word, value_part, version_at, versions_from}
 use Rattle.store_memtable.specs.Rows.{versions_in, RowIn, Readable, Valid, order_with, place_of, count_on, live_found, value_found}
 use Rattle.store_memtable.specs.Merging.{FrontIn}
 use Rattle.store_memtable.proofs.VersionLaws.{Ahead, After, all_after, sorted_rest, SeqsIn, found_here, find_by_place, newest_first, newest_other}
+use Rattle.std.specs.Prelude.{Option}
 
 module _ (w b : List ℕ) where
   pub row_in : (i : ℕ) → Readable w b → i < count_word w → RowIn w b i
@@ -28,16 +25,6 @@ module _ (w b : List ℕ) where
 
   pub row_of : (i : ℕ) → Valid w b → i < count_word w → RowIn w b i
   row_of i v h = row_in i v.readable h
-
-  pub row_below : (i : ℕ) {n : ℕ} → Valid w b → n ≡ count_word w → i < n → RowIn w b i
-  row_below i v n-is h = row_of i v (omega arith)
-
-  pub row_before : (i : ℕ) → Readable w b → i < count_word w → RowIn w b (i - 1)
-  row_before i rd h = row_in (i - 1) rd (omega arith)
-
-  pub key_part_lem : (i : ℕ) {s k : ℕ} → s ≡ start_word w i → k ≡ key_word w i → take (s + k - s) (drop s b) ≡ (version_at w b i).key
-  unfolding version_at
-  key_part_lem i s-is k-is = simp (add-sub_cancel_left, s-is, k-is)
 
   -- a walk over n versions at place i
   pub versions_next : (n i : ℕ) → i < n → versions_from w b i (n - i) ≡ version_at w b i ∷ versions_from w b (suc i) (n - suc i)
@@ -74,30 +61,6 @@ value_bytes (suc x) l = refl
 pub part_bytes : (w b : List ℕ) (i : ℕ) → bytes_of (version_at w b i).value ≡ value_part w b i
 unfolding version_at
 part_bytes w b i = value_bytes (value_word w i) _
-
--- the order of two versions, from their keys l and m
-pub order_at : (w b : List ℕ) (i j : ℕ) {o : Order} {l m : List ℕ} → l ≡ (version_at w b i).key → m ≡ (version_at w b j).key
-    → o ≡ order_of_versions l (seq_word w i) m (seq_word w j) → o ≡ order_of (version_at w b i) (version_at w b j)
-unfolding order_of version_at
-order_at w b i j p q is = rw (is, p, q)
-
--- whether version i comes before k at s, from its key l
-module _ (w b : List ℕ) (i : ℕ) (k : List ℕ) (s : ℕ) {o : Order} {l : List ℕ} (p : l ≡ (version_at w b i).key) (is : o ≡ order_of_versions l (seq_word w i) k s) where
-  with_is : is_less (order_with k s (version_at w b i)) ≡ is_less o
-  unfolding order_with version_at
-  with_is = rw (is, p)
-
-  pub before_less : o ≡ Less → true ≡ is_less (order_with k s (version_at w b i))
-  before_less e = rw (with_is, e)
-
-  pub before_equal : o ≡ Equal → false ≡ is_less (order_with k s (version_at w b i))
-  before_equal e = rw (with_is, e)
-
-  pub before_greater : o ≡ Greater → false ≡ is_less (order_with k s (version_at w b i))
-  before_greater e = rw (with_is, e)
-
-pub of_key : (w b : List ℕ) (i : ℕ) (k : List ℕ) {r : Bool} {l : List ℕ} → l ≡ (version_at w b i).key → r ≡ same_key l k → r ≡ same_key (version_at w b i).key k
-of_key w b i k p is = rw is (rw p)
 
 -- a place is within the list
 pub place_in : (k : Key) (s : ℕ) (vs : List Version) → place_of k s vs ≤ length vs
@@ -150,38 +113,13 @@ module _ (w b k : List ℕ) (s : ℕ) where
   pub place_fits : (i n : ℕ) → place_of k s (versions_from w b i n) ≤ n
   place_fits i n = omega (arith, place_in k s (versions_from w b i n), length_versions w b i n)
 
--- the place among the first n versions lies between low and high
-pub record Halving (w b k : List ℕ) (s n low high : ℕ) : Type 0 where
-  pub above : low ≤ place_of k s (versions_from w b 0 n)
-  pub below : place_of k s (versions_from w b 0 n) ≤ high
-  pub within : high ≤ n
-
-module _ {w b k : List ℕ} {s n : ℕ} where
-  pub halving_all : Halving w b k s n 0 n
-  halving_all = record { above = omega arith; below = omega (arith, place_fits w b k s 0 n); within = omega arith }
-
-  module _ {low high : ℕ} {r : Bool} (h : Halving w b k s n low high) (f : FrontIn w b n) (l : low < high)
-      (is : r ≡ is_less (order_with k s (version_at w b (low + (high - low) / 2)))) where
-    pub halving_up : r ≡ true → Halving w b k s n (low + (high - low) / 2 + 1) high
-    halving_up e = record {
-      above = omega (arith, place_above w b k s 0 n (low + (high - low) / 2) f.ordered (omega arith) (omega arith) (sym is ∙ e));
-      below = h.below;
-      within = h.within;
-    }
-
-    pub halving_down : r ≡ false → Halving w b k s n low (low + (high - low) / 2)
-    halving_down e = record {
-      above = h.above;
-      below = omega (arith, place_below w b k s 0 n (low + (high - low) / 2) (omega arith) (omega arith) (sym is ∙ e));
-      within = omega arith;
-    }
-
-  -- the middle is a version
-  pub halving_row : {low high : ℕ} → FrontIn w b n → Halving w b k s n low high → low < high → RowIn w b (low + (high - low) / 2)
-  halving_row {low} {high} f h l = record { words_in = omega (arith, f.rows_in); bytes_in = f.ends_in (low + (high - low) / 2) (omega arith) }
-
-  pub halving_done : {low high : ℕ} → Halving w b k s n low high → high ≤ low → low ≡ place_of k s (versions_from w b 0 n)
-  halving_done h l = omega arith
+  -- of n versions in order, those before the place come before the key, and no others
+  pub place_splits : (n j : ℕ) → sorted (versions_from w b 0 n) ≡ true → j < n → here j ≡ ltb j (place_of k s (versions_from w b 0 n))
+  place_splits n j o h = go (here j) refl
+    where
+      go : (t : Bool) → here j ≡ t → t ≡ ltb j (place_of k s (versions_from w b 0 n))
+      go true e = sym (lt-ltb j _ (omega (arith, place_above 0 n j o (omega arith) (omega arith) e)))
+      go false e = sym (le-ltb j _ (omega (arith, place_below 0 n j (omega arith) (omega arith) e)))
 
 -- all versions are a front
 module _ (w b : List ℕ) {n : ℕ} (n-is : n ≡ count_word w) where
@@ -191,9 +129,6 @@ module _ (w b : List ℕ) {n : ℕ} (n-is : n ≡ count_word w) where
     ends_in = λ i h. v.readable.ends_in i (omega arith);
     ordered = ap (λ (x : ℕ). sorted (versions_from w b 0 x)) n-is ∙ v.ordered;
   }
-
-  pub place_all : (k : List ℕ) (s : ℕ) {r : ℕ} → r ≡ place_of k s (versions_from w b 0 n) → r ≡ place_of k s (versions_in w b)
-  place_all k s e = e ∙ ap (λ (x : ℕ). place_of k s (versions_from w b 0 x)) n-is
 
 -- THE VERSION A READ FINDS, from its place
 module _ (w b k : List ℕ) (s : ℕ) (ok : sorted (versions_in w b) ≡ true) {i : ℕ} (i-is : i ≡ place_of k s (versions_in w b)) where
@@ -205,120 +140,117 @@ module _ (w b k : List ℕ) (s : ℕ) (ok : sorted (versions_in w b) ≡ true) {
       ∙ (λ z. found_here (zero-add p z) k (versions_from w b (zero-add p z) (count_word w - p)))
       ∙ (λ z. found_here (sym i-is z) k (versions_from w b (sym i-is z) (count_word w - sym i-is z)))
 
-  pub found_past : {n : ℕ} → n ≡ count_word w → n ≤ i → Nothing ≡ find_from 0 (versions_in w b) k s
+  pub found_past : {n : ℕ} → n ≡ count_word w → n ≤ i → None ≡ find_from 0 (versions_in w b) k s
   found_past n-is h = rw (found_is, versions_end w b (count_word w) i (omega arith))
 
   module _ {n : ℕ} {r : Bool} (n-is : n ≡ count_word w) (h : i < n) (is : r ≡ same_key (version_at w b i).key k) where
-    found_by_key : find_from 0 (versions_in w b) k s ≡ cond r (At i) Nothing
+    found_by_key : find_from 0 (versions_in w b) k s ≡ cond r (Some i) None
     found_by_key = found_is ∙ rw (versions_next w b (count_word w) i (omega arith), is)
 
-    pub found_same : r ≡ true → At i ≡ find_from 0 (versions_in w b) k s
+    pub found_same : r ≡ true → Some i ≡ find_from 0 (versions_in w b) k s
     found_same e = rw (found_by_key, e)
 
-    pub found_other : r ≡ false → Nothing ≡ find_from 0 (versions_in w b) k s
+    pub found_other : r ≡ false → None ≡ find_from 0 (versions_in w b) k s
     found_other e = rw (found_by_key, e)
 
 -- what is found is a version, and its value is what is read
-found_at : (w b k : List ℕ) (s i n j : ℕ) → find_from i (versions_from w b i n) k s ≡ At j
+found_at : (w b k : List ℕ) (s i n j : ℕ) → find_from i (versions_from w b i n) k s ≡ Some j
     → (i ≤ j) × ((j < i + n) × (read_at s (versions_from w b i n) k ≡ (version_at w b j).value))
 unfolding versions_from find_from read_at
 found_at w b k s i zero j e = let z : ◌≡◌ {A = ℕ} 0 1 = cc in absurd (omega arith)
 found_at w b k s i (suc n) j e = go (sees k s (version_at w b i)) e (found_at w b k s (suc i) n j)
   where
-    go : (t : Bool) → cond t (At i) (find_from (suc i) (versions_from w b (suc i) n) k s) ≡ At j
-        → (find_from (suc i) (versions_from w b (suc i) n) k s ≡ At j → (suc i ≤ j) × ((j < suc i + n) × (read_at s (versions_from w b (suc i) n) k ≡ (version_at w b j).value)))
+    go : (t : Bool) → cond t (Some i) (find_from (suc i) (versions_from w b (suc i) n) k s) ≡ Some j
+        → (find_from (suc i) (versions_from w b (suc i) n) k s ≡ Some j → (suc i ≤ j) × ((j < suc i + n) × (read_at s (versions_from w b (suc i) n) k ≡ (version_at w b j).value)))
         → (i ≤ j) × ((j < i + suc n) × (cond t (version_at w b i).value (read_at s (versions_from w b (suc i) n) k) ≡ (version_at w b j).value))
     go true q ih = let h : i ≡ j = cc in (omega arith, (omega arith, ap (λ (x : ℕ). (version_at w b x).value) h))
     go false q ih = let r = ih q in (omega (arith, r.0), (omega (arith, r.1.0), r.1.1))
 
-found_none : (w b k : List ℕ) (s i n : ℕ) → find_from i (versions_from w b i n) k s ≡ Nothing → read_at s (versions_from w b i n) k ≡ none
+found_none : (w b k : List ℕ) (s i n : ℕ) → find_from i (versions_from w b i n) k s ≡ None → read_at s (versions_from w b i n) k ≡ None
 unfolding versions_from find_from read_at
 found_none w b k s i zero e = refl
 found_none w b k s i (suc n) e = go (sees k s (version_at w b i)) e (found_none w b k s (suc i) n)
   where
-    go : (t : Bool) → cond t (At i) (find_from (suc i) (versions_from w b (suc i) n) k s) ≡ Nothing
-        → (find_from (suc i) (versions_from w b (suc i) n) k s ≡ Nothing → read_at s (versions_from w b (suc i) n) k ≡ none)
-        → cond t (version_at w b i).value (read_at s (versions_from w b (suc i) n) k) ≡ none
+    go : (t : Bool) → cond t (Some i) (find_from (suc i) (versions_from w b (suc i) n) k s) ≡ None
+        → (find_from (suc i) (versions_from w b (suc i) n) k s ≡ None → read_at s (versions_from w b (suc i) n) k ≡ None)
+        → cond t (version_at w b i).value (read_at s (versions_from w b (suc i) n) k) ≡ None
     go true q ih = let z : ◌≡◌ {A = ℕ} 0 1 = cc in absurd (omega arith)
     go false q ih = ih q
 
-module _ (w b k : List ℕ) (s : ℕ) {o : Found} (is : o ≡ find_from 0 (versions_in w b) k s) where
-  found_in : {i : ℕ} → o ≡ At i → i < count_word w
+module _ (w b k : List ℕ) (s : ℕ) {o : Option ℕ} (is : o ≡ find_from 0 (versions_in w b) k s) where
+  found_in : {i : ℕ} → o ≡ Some i → i < count_word w
   found_in {i} e = omega (arith, (found_at w b k s 0 (count_word w) i (sym is ∙ e)).1.0)
 
-  pub found_words : {i : ℕ} → Valid w b → o ≡ At i → 5 + 4 * i + 4 ≤ length w
+  pub found_words : {i : ℕ} → Valid w b → o ≡ Some i → 5 + 4 * i + 4 ≤ length w
   found_words {i} v e = let h = found_in e in omega arith
 
-  pub live_at_lem : {i : ℕ} {r : Bool} → o ≡ At i → r ≡ eqb (value_word w i) 0 → r ≡ false → At i ≡ live_found w (find_from 0 (versions_in w b) k s)
-  unfolding live_found
-  live_at_lem e r-is f = rw (← is, e, ← r-is, f)
-
-  pub live_dead : {i : ℕ} {r : Bool} → o ≡ At i → r ≡ eqb (value_word w i) 0 → r ≡ true → Nothing ≡ live_found w (find_from 0 (versions_in w b) k s)
+  pub live_dead : {i : ℕ} {r : Bool} → o ≡ Some i → r ≡ eqb (value_word w i) 0 → r ≡ true → None ≡ live_found w (find_from 0 (versions_in w b) k s)
   unfolding live_found
   live_dead e r-is f = rw (← is, e, ← r-is, f)
 
-  pub live_none : o ≡ Nothing → Nothing ≡ live_found w (find_from 0 (versions_in w b) k s)
-  unfolding live_found
-  live_none e = rw (← is, e)
-
 -- what `find_value` gives is what a reader reads, and a place that it gives is a version
-module _ (w b k : List ℕ) (s : ℕ) {o : Found} (is : o ≡ live_found w (find_from 0 (versions_in w b) k s)) where
+module _ (w b k : List ℕ) (s : ℕ) {o : Option ℕ} (is : o ≡ live_found w (find_from 0 (versions_in w b) k s)) where
   pub read_found : read_at s (versions_in w b) k ≡ value_found w b o
   unfolding version_at live_found
   read_found = go (find_from 0 (versions_in w b) k s) refl
     where
-      live : (i x : ℕ) → cond (eqb x 0) none (some (value_part w b i)) ≡ value_of_word x (value_part w b i)
+      live : (i x : ℕ) → cond (eqb x 0) None (Some (value_part w b i)) ≡ value_of_word x (value_part w b i)
       live i zero = refl
       live i (suc x) = rw (ne_eqb (suc x) 0 (λ (z : suc x ≡ 0). omega arith))
 
-      pick : (i : ℕ) (t : Bool) → cond t none (some (value_part w b i)) ≡ value_found w b (cond t Nothing (At i))
+      pick : (i : ℕ) (t : Bool) → cond t None (Some (value_part w b i)) ≡ value_found w b (cond t None (Some i))
       pick i true = refl
       pick i false = refl
 
-      go : (x : Found) → find_from 0 (versions_in w b) k s ≡ x → read_at s (versions_in w b) k ≡ value_found w b o
-      go (At i) e =
+      go : (x : Option ℕ) → find_from 0 (versions_in w b) k s ≡ x → read_at s (versions_in w b) k ≡ value_found w b o
+      go (Some i) e =
           (found_at w b k s 0 (count_word w) i e).1.1
           ∙ sym (live i (value_word w i)) ∙ pick i (eqb (value_word w i) 0)
           ∙ ap (value_found w b) (sym (is ∙ ap (live_found w) e))
-      go Nothing e = found_none w b k s 0 (count_word w) e ∙ ap (value_found w b) (sym (is ∙ ap (live_found w) e))
+      go None e = found_none w b k s 0 (count_word w) e ∙ ap (value_found w b) (sym (is ∙ ap (live_found w) e))
 
-  pub read_row : {i : ℕ} → Valid w b → o ≡ At i → RowIn w b i
+  pub read_some : {i : ℕ} {v : List ℕ} → o ≡ Some i → v ≡ value_part w b i → Some v ≡ read_at s (versions_in w b) k
+  read_some e h = ap Some h ∙ sym (read_found ∙ ap (value_found w b) e)
+
+  pub read_none : o ≡ None → None ≡ read_at s (versions_in w b) k
+  read_none e = sym (read_found ∙ ap (value_found w b) e)
+
+  pub read_in : {i : ℕ} → o ≡ Some i → i < count_word w
   unfolding live_found
-  read_row {i} v e = go (find_from 0 (versions_in w b) k s) refl
+  read_in {i} e = go (find_from 0 (versions_in w b) k s) refl
     where
-      pick : (j : ℕ) (t : Bool) → cond t Nothing (At j) ≡ At i → At j ≡ At i
+      pick : (j : ℕ) (t : Bool) → cond t None (Some j) ≡ Some i → Some j ≡ Some i
       pick j true q = let z : ◌≡◌ {A = ℕ} 0 1 = cc in absurd (omega arith)
       pick j false q = q
 
-      go : (x : Found) → find_from 0 (versions_in w b) k s ≡ x → RowIn w b i
-      go (At j) f = row_of w b i v (found_in w b k s (sym f) (pick j (eqb (value_word w j) 0) (sym (ap (live_found w) f) ∙ sym is ∙ e)))
-      go Nothing f = let z : live_found w Nothing ≡ At i = sym (ap (live_found w) f) ∙ sym is ∙ e in let y : ◌≡◌ {A = ℕ} 0 1 = cc in absurd (omega arith)
+      go : (x : Option ℕ) → find_from 0 (versions_in w b) k s ≡ x → i < count_word w
+      go (Some j) f = found_in w b k s (sym f) (pick j (eqb (value_word w j) 0) (sym (ap (live_found w) f) ∙ sym is ∙ e))
+      go None f = let z : live_found w None ≡ Some i = sym (ap (live_found w) f) ∙ sym is ∙ e in let y : ◌≡◌ {A = ℕ} 0 1 = cc in absurd (omega arith)
 
-pub moved_is : (w b k : List ℕ) (s : ℕ) {x : ℕ} → x ≡ newest (versions_in w b) k → ltb s x ≡ moved s (versions_in w b) k
-unfolding moved
-moved_is w b k s e = ap (ltb s) e
+  pub read_row : {i : ℕ} → Valid w b → o ≡ Some i → RowIn w b i
+  read_row {i} v e = row_of w b i v (read_in e)
 
 -- THE NEWEST SEQUENCE, from what a read at the last sequence finds
 pub newest_at_lem : (w b k : List ℕ) (l i n j : ℕ) → sorted (versions_from w b i n) ≡ true → SeqsIn l (versions_from w b i n)
-    → find_from i (versions_from w b i n) k l ≡ At j → newest (versions_from w b i n) k ≡ seq_word w j
+    → find_from i (versions_from w b i n) k l ≡ Some j → newest (versions_from w b i n) k ≡ seq_word w j
 unfolding versions_from find_from version_at
 newest_at_lem w b k l i zero j o q e = let z : ◌≡◌ {A = ℕ} 0 1 = cc in absurd (omega arith)
 newest_at_lem w b k l i (suc n) j o q e =
     go (sees k l (version_at w b i)) refl e (newest_at_lem w b k l (suc i) n j (sorted_rest (version_at w b i) (versions_from w b (suc i) n) o) q.1)
   where
-    go : (t : Bool) → sees k l (version_at w b i) ≡ t → cond t (At i) (find_from (suc i) (versions_from w b (suc i) n) k l) ≡ At j
-        → (find_from (suc i) (versions_from w b (suc i) n) k l ≡ At j → newest (versions_from w b (suc i) n) k ≡ seq_word w j)
+    go : (t : Bool) → sees k l (version_at w b i) ≡ t → cond t (Some i) (find_from (suc i) (versions_from w b (suc i) n) k l) ≡ Some j
+        → (find_from (suc i) (versions_from w b (suc i) n) k l ≡ Some j → newest (versions_from w b (suc i) n) k ≡ seq_word w j)
         → newest (version_at w b i ∷ versions_from w b (suc i) n) k ≡ seq_word w j
     go true f r ih = let h : i ≡ j = cc in newest_first k l (version_at w b i) (versions_from w b (suc i) n) q.0 f o ∙ ap (seq_word w) h
     go false f r ih = newest_other k l (version_at w b i) (versions_from w b (suc i) n) q.0 f ∙ ih r
 
-pub newest_zero : (w b k : List ℕ) (l i n : ℕ) → SeqsIn l (versions_from w b i n) → find_from i (versions_from w b i n) k l ≡ Nothing → newest (versions_from w b i n) k ≡ 0
+pub newest_zero : (w b k : List ℕ) (l i n : ℕ) → SeqsIn l (versions_from w b i n) → find_from i (versions_from w b i n) k l ≡ None → newest (versions_from w b i n) k ≡ 0
 unfolding versions_from find_from newest
 newest_zero w b k l i zero q e = refl
 newest_zero w b k l i (suc n) q e = go (sees k l (version_at w b i)) refl e (newest_zero w b k l (suc i) n q.1)
   where
-    go : (t : Bool) → sees k l (version_at w b i) ≡ t → cond t (At i) (find_from (suc i) (versions_from w b (suc i) n) k l) ≡ Nothing
-        → (find_from (suc i) (versions_from w b (suc i) n) k l ≡ Nothing → newest (versions_from w b (suc i) n) k ≡ 0)
+    go : (t : Bool) → sees k l (version_at w b i) ≡ t → cond t (Some i) (find_from (suc i) (versions_from w b (suc i) n) k l) ≡ None
+        → (find_from (suc i) (versions_from w b (suc i) n) k l ≡ None → newest (versions_from w b (suc i) n) k ≡ 0)
         → newest (version_at w b i ∷ versions_from w b (suc i) n) k ≡ 0
     go true f r ih = let z : ◌≡◌ {A = ℕ} 0 1 = cc in absurd (omega arith)
     go false f r ih = newest_other k l (version_at w b i) (versions_from w b (suc i) n) q.0 f ∙ ih r

@@ -1,16 +1,16 @@
 -- Writes committed one after the other: the words and bytes stay the store so far, written back over those of the start. Assumes nothing.
 use mathlib.Core.Path.{◌≡◌, sym, ap, ◌∙◌, subst}
 use mathlib.Core.List.{List, [], ◌∷◌, ◌++◌}
-use mathlib.Core.Option.{Option}
+use Rattle.std.specs.Prelude.{Option}
 use Prim.Native.Nat.{ℕ, ◌+◌, ◌≤◌, ◌<◌}
 use native.Mathlib.Omega.{arith}
 use lib.ListN.{length, drop, take-append-drop}
 use Rattle.base_key.specs.Bytes.{over_front}
 use Rattle.base_key.specs.Keys.{Key}
 use Rattle.store_memtable.specs.Table.{Value, Write}
-use Rattle.store_memtable.specs.Versions.{Store, size_of, commit_one, commit, writes_size, versions_size}
+use Rattle.store_memtable.specs.Versions.{Store, bytes_of, size_of, commit_one, commit, writes_size, versions_size}
 use Rattle.store_memtable.specs.Layout.{count_word, used_word, last_word, most_versions_word, most_bytes_word, store_in, leave_words, leave_bytes}
-use Rattle.store_memtable.specs.Rows.{Valid}
+use Rattle.store_memtable.specs.Rows.{RoomForOne, Valid}
 use Rattle.store_memtable.proofs.VersionLaws.{Room, sound_commit, commit_count, commit_size, later_commit}
 use Rattle.store_memtable.proofs.Moves.{five}
 use Rattle.store_memtable.proofs.Encoding.{encoded, leave_words_lem, versions_size_lem}
@@ -88,3 +88,10 @@ module _ {st : Store} {w₀ b₀ w b : List ℕ} (h : Holds st w₀ b₀ w b) wh
         → Holds (commit_one (k, x) st) w₀ b₀ w' b'
     unfolding commit writes_size
     holds_one p q = holds_commit ((k, x) ∷ []) (record { counts = omega arith; sizes = omega arith }) p q
+
+-- a commit of one leaves a valid store
+pub committed_valid : (w b : List ℕ) (k : Key) (x : Option Value) {w' b' : List ℕ} → Valid w b → RoomForOne w k (bytes_of x)
+    → w' ≡ leave_words (commit_one (k, x) (store_in w b)) w → b' ≡ leave_bytes (commit_one (k, x) (store_in w b)) b → Valid w' b'
+committed_valid w b k x v r p q =
+    let h : Holds (store_in w b) w b w b = holds_first w b v in
+    holds_valid (holds_one h k x (omega (arith, r.row_free, holds_count h, holds_most_versions h)) (omega (arith, r.bytes_free, holds_used h, holds_most_bytes h)) p q)

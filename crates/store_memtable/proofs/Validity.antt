@@ -1,52 +1,26 @@
 -- Laws of validity: the tests of the buffers, the header and one row, the walk over the rows, and the walk over the order. Assumes nothing.
 use mathlib.Core.Path.{◌≡◌, refl, sym, ap, ◌∙◌, subst}
 use mathlib.Core.Logic.{⊎_elim}
-use mathlib.Core.Bool.{Bool, true, false, cond, false≢true}
+use mathlib.Core.Bool.{Bool, true, false, cond, ◌&&◌, false≢true}
 use mathlib.Core.List.{List}
-use Prim.Native.Nat.{ℕ, zero, suc, ◌+◌, ◌-◌, ◌*◌, ◌/◌, ◌≤◌, ◌<◌}
+use Prim.Native.Nat.{ℕ, zero, suc, ◌+◌, ◌-◌, ◌*◌, ◌≤◌, ◌<◌}
 use native.Mathlib.Nat.{sub-zero, eq-or-lt_of_le}
 use native.Mathlib.Numerals.{add-one}
 use native.Mathlib.Omega.{arith}
 use lib.ListN.{length}
-use lib.Dec.{leb, eqb}
-use borrow.Author.Tests.{le-leb, lt-leb, eq-eqb, ne_eqb, leb-true, eqb-true}
-use Rattle.base_key.specs.declared.Order.{Order}
-use Rattle.base_key.specs.declared.Order.TheVariants.{Less, Equal, Greater}
+use Rattle.std.specs.List.{list_all, range_with_len}
+use lib.Dec.{eqb}
+use borrow.Author.Tests.{leb-true, eqb-true}
 use Rattle.base_key.specs.Bytes.{◌and◌}
 use Rattle.base_key.proofs.Bytes.{and_left, and_right}
-use Rattle.store_memtable.specs.declared.Found.{Found}
-use Rattle.store_memtable.specs.declared.Found.TheVariants.{At, Nothing}
-use Rattle.store_memtable.specs.declared.valid.Row.{Row}
-use Rattle.store_memtable.specs.declared.valid.Row.TheVariants.{End, Bad}
-use Rattle.store_memtable.specs.Versions.{sorted, sorted_after, order_of, find_from, newest}
-use Rattle.store_memtable.specs.Layout.{count_word, used_word, last_word, most_versions_word, most_bytes_word, start_word, key_word, value_word, seq_word, end_word, buffers_hold, header_ok, row_ok, chain_ok, valid_store, version_at, versions_from, store_in}
-use Rattle.store_memtable.specs.Rows.{RowIn, Readable, Valid, row_end, versions_in}
+use Rattle.store_memtable.specs.Versions.{sorted, sorted_after, before, find_from, newest}
+use Rattle.store_memtable.specs.Layout.{count_word, used_word, last_word, most_versions_word, most_bytes_word, start_word, seq_word, end_word, buffers_hold, header_ok, row_ok, chain_ok, valid_store, version_at, versions_from, store_in}
+use Rattle.store_memtable.specs.Rows.{Readable, Valid, row_end, versions_in}
 use Rattle.store_memtable.proofs.VersionLaws.{SeqsIn}
-use Rattle.store_memtable.proofs.Rows.{row_in, versions_next, versions_end, newest_at_lem, newest_zero}
+use Rattle.store_memtable.proofs.Rows.{newest_at_lem, newest_zero}
+use Rattle.std.specs.Prelude.{Option, None, Some}
 
--- the tests of the buffers, in the order of the code
-module _ (w b : List ℕ) (n m : ℕ) where
-  pub buffers_none : length w < 5 → false ≡ buffers_hold w b n m
-  unfolding buffers_hold ◌and◌
-  buffers_none h = simp (lt-leb (5 + 4 * n) (length w) (omega arith))
-
-  pub buffers_words : (length w - 5) / 4 < n → false ≡ buffers_hold w b n m
-  unfolding buffers_hold ◌and◌
-  buffers_words h = simp (lt-leb (5 + 4 * n) (length w) (omega arith))
-
-  module _ (five : 5 ≤ length w) (fit : n ≤ (length w - 5) / 4) where
-    room : leb (5 + 4 * n) (length w) ≡ true
-    room = le-leb (5 + 4 * n) (length w) (omega arith)
-
-    pub buffers_bytes : length b < m → false ≡ buffers_hold w b n m
-    unfolding buffers_hold ◌and◌
-    buffers_bytes h = simp (room, lt-leb _ _ h)
-
-    pub buffers_good : m ≤ length b → true ≡ buffers_hold w b n m
-    unfolding buffers_hold ◌and◌
-    buffers_good h = simp (room, le-leb _ _ h)
-
--- what they tell
+-- what the tests of the buffers tell
 pub buffers_words_in : (w b : List ℕ) (n m : ℕ) → buffers_hold w b n m ≡ true → 5 + 4 * n ≤ length w
 unfolding buffers_hold
 buffers_words_in w b n m e = leb-true _ _ (and_left _ _ e)
@@ -55,35 +29,7 @@ pub buffers_bytes_in : (w b : List ℕ) (n m : ℕ) → buffers_hold w b n m ≡
 unfolding buffers_hold
 buffers_bytes_in w b n m e = leb-true _ _ (and_right _ _ e)
 
--- the tests of the header
-module _ (w b : List ℕ) where
-  pub header_none : length w < 5 → false ≡ header_ok w b
-  unfolding header_ok ◌and◌
-  header_none h = rw (sym (buffers_none w b (most_versions_word w) (most_bytes_word w) h))
-
-  module _ {n m : ℕ} {r : Bool} (n-is : n ≡ most_versions_word w) (m-is : m ≡ most_bytes_word w) (is : r ≡ buffers_hold w b n m) where
-    held : buffers_hold w b (most_versions_word w) (most_bytes_word w) ≡ r
-    held = sym (is ∙ (λ z. buffers_hold w b (n-is z) (m-is z)))
-
-    pub header_buffers : r ≡ false → false ≡ header_ok w b
-    unfolding header_ok ◌and◌
-    header_buffers e = rw (held, e)
-
-    module _ (e : r ≡ true) where
-      pub header_count : most_versions_word w < count_word w → false ≡ header_ok w b
-      unfolding header_ok ◌and◌
-      header_count h = rw (held, e, lt-leb (count_word w) (most_versions_word w) h)
-
-      module _ (c : count_word w ≤ most_versions_word w) where
-        pub header_used : most_bytes_word w < used_word w → false ≡ header_ok w b
-        unfolding header_ok ◌and◌
-        header_used h = rw (held, e, le-leb (count_word w) (most_versions_word w) c, lt-leb (used_word w) (most_bytes_word w) h)
-
-        pub header_good : used_word w ≤ most_bytes_word w → true ≡ header_ok w b
-        unfolding header_ok ◌and◌
-        header_good h = rw (held, e, le-leb (count_word w) (most_versions_word w) c, le-leb (used_word w) (most_bytes_word w) h)
-
--- what they tell
+-- what the tests of the header tell
 pub record Header (w b : List ℕ) : Type 0 where
   pub words_fit : 5 + 4 * most_versions_word w ≤ length w
   pub bytes_fit : most_bytes_word w ≤ length b
@@ -99,32 +45,6 @@ header w b e = record {
   used_fits = leb-true _ _ (and_right _ _ (and_right _ _ e));
 }
 
--- a row's tests, in the order of the code; s, u, k, x are the words that it read
-module _ (w : List ℕ) (i pos : ℕ) {s : ℕ} (s-is : s ≡ start_word w i) where
-  pub row_moved : (s ≡ pos → ⊥) → Bad ≡ row_end w i pos
-  unfolding row_end row_ok ◌and◌
-  row_moved h = simp (ne_eqb (start_word w i) pos (λ e. h (s-is ∙ e)))
-
-  module _ {u k : ℕ} (at : s ≡ pos) (u-is : u ≡ used_word w) (below : pos ≤ used_word w) (k-is : k ≡ key_word w i) where
-    pub row_key_out : u - pos < k → Bad ≡ row_end w i pos
-    unfolding row_end row_ok ◌and◌
-    row_key_out h = simp (eq-eqb (start_word w i) pos (omega arith), lt-leb (end_word w i) (used_word w) (omega arith))
-
-    module _ {x v : ℕ} (key_in : k ≤ u - pos) (x-is : x ≡ value_word w i) (v-is : v ≡ x - 1) where
-      pub row_value_out : u - pos - k < v → Bad ≡ row_end w i pos
-      unfolding row_end row_ok ◌and◌
-      row_value_out h = simp (eq-eqb (start_word w i) pos (omega arith), lt-leb (end_word w i) (used_word w) (omega arith))
-
-      pub row_late : v ≤ u - pos - k → last_word w < seq_word w i → Bad ≡ row_end w i pos
-      unfolding row_end row_ok ◌and◌
-      row_late l h = simp (eq-eqb (start_word w i) pos (omega arith), le-leb (end_word w i) (used_word w) (omega arith), lt-leb _ _ h)
-
-      pub row_good : v ≤ u - pos - k → seq_word w i ≤ last_word w → End (u - (u - pos - k - v)) ≡ row_end w i pos
-      unfolding row_end row_ok ◌and◌
-      row_good l h =
-          let e : u - (u - pos - k - v) ≡ end_word w i = omega arith in
-          simp (e, eq-eqb (start_word w i) pos (omega arith), le-leb (end_word w i) (used_word w) (omega arith), le-leb _ _ h)
-
 -- what a row's tests tell
 pub record RowFacts (w : List ℕ) (i pos : ℕ) : Type 0 where
   pub at : start_word w i ≡ pos
@@ -136,11 +56,11 @@ unfolding row_ok
 row_facts w i pos e = record { at = eqb-true _ _ (and_left _ _ e); fits = leb-true _ _ (and_left _ _ (and_right _ _ e)); seq_fits = leb-true _ _ (and_right _ _ (and_right _ _ e)) }
 
 -- a row with an end passed its tests; one with none did not
-pick_end : (t : Bool) (e f : ℕ) → End e ≡ cond t (End f) Bad → (t ≡ true) × (e ≡ f)
+pick_end : (t : Bool) (e f : ℕ) → Some e ≡ cond t (Some f) None → (t ≡ true) × (e ≡ f)
 pick_end true e f h = (refl, cc)
 pick_end false e f h = let z : ◌≡◌ {A = ℕ} 0 1 = cc in absurd (omega arith)
 
-pick_bad : (t : Bool) (f : ℕ) → Bad ≡ cond t (End f) Bad → t ≡ false
+pick_bad : (t : Bool) (f : ℕ) → None ≡ cond t (Some f) None → t ≡ false
 pick_bad true f h = let z : ◌≡◌ {A = ℕ} 0 1 = cc in absurd (omega arith)
 pick_bad false f h = refl
 
@@ -163,52 +83,36 @@ module _ (w : List ℕ) (i n pos : ℕ) where
       go false h = absurd (false≢true h)
 
 -- a walk over the rows: those before place i lie one behind the other up to pos
-pub record Linked (w : List ℕ) (n i pos : ℕ) : Type 0 where
-  pub within : i ≤ n
+pub record Linked (w : List ℕ) (i pos : ℕ) : Type 0 where
   pub below : pos ≤ used_word w
-  pub rest : chain_ok w 0 n 0 ≡ chain_ok w i (n - i) pos
+  pub rest : chain_ok w 0 (count_word w) 0 ≡ chain_ok w i (count_word w - i) pos
 
-module _ (w : List ℕ) (n i pos : ℕ) (h : i < n) where
-  chain_step : chain_ok w i (n - i) pos ≡ chain_ok w i (suc (n - suc i)) pos
-  chain_step = let e : n - i ≡ suc (n - suc i) = omega arith in ap (λ (x : ℕ). chain_ok w i x pos) e
+pub linked_none : (w : List ℕ) → Linked w 0 0
+linked_none w = record { below = omega arith; rest = rw sub-zero }
 
-  chain_next : row_ok w i pos ≡ true → chain_ok w i (n - i) pos ≡ chain_ok w (suc i) (n - suc i) (end_word w i)
-  unfolding chain_ok
-  chain_next t = chain_step ∙ ap (λ (r : Bool). elim r [ true ↦ chain_ok w (suc i) (n - suc i) (end_word w i) | false ↦ false ]) t
-
-  chain_broken : row_ok w i pos ≡ false → chain_ok w i (n - i) pos ≡ false
-  unfolding chain_ok
-  chain_broken t = chain_step ∙ ap (λ (r : Bool). elim r [ true ↦ chain_ok w (suc i) (n - suc i) (end_word w i) | false ↦ false ]) t
+-- the row at place i decides
+chain_step : (w : List ℕ) (n i pos : ℕ) → i < n → chain_ok w i (n - i) pos ≡ elim (row_ok w i pos) [ true ↦ chain_ok w (suc i) (n - suc i) (end_word w i) | false ↦ false ]
+unfolding chain_ok
+chain_step w n i pos h = let e : n - i ≡ suc (n - suc i) = omega arith in rw e
 
 chain_end : (w : List ℕ) (n i pos : ℕ) → n ≤ i → chain_ok w i (n - i) pos ≡ eqb pos (used_word w)
 unfolding chain_ok
 chain_end w n i pos h = let e : n - i ≡ 0 = omega arith in rw e
 
-counted : (w : List ℕ) (n : ℕ) → n ≡ count_word w → chain_ok w 0 (count_word w) 0 ≡ chain_ok w 0 n 0
-counted w n e = ap (λ (x : ℕ). chain_ok w 0 x 0) (sym e)
-
-module _ {w : List ℕ} {n : ℕ} (n-is : n ≡ count_word w) where
-  module _ {i pos : ℕ} {o : Row} (l : Linked w n i pos) (h : i < n) (is : o ≡ row_end w i pos) where
-    pub linked_broken : o ≡ Bad → false ≡ chain_ok w 0 (count_word w) 0
+module _ {w : List ℕ} {i pos : ℕ} (l : Linked w i pos) where
+  module _ {o : Option ℕ} (h : i < count_word w) (is : o ≡ row_end w i pos) where
+    pub linked_more : {e : ℕ} → o ≡ Some e → Linked w (i + 1) e
     unfolding row_end
-    linked_broken q = sym (counted w n n-is ∙ l.rest ∙ chain_broken w n i pos h (pick_bad (row_ok w i pos) _ (sym q ∙ is)))
+    linked_more {e} q =
+        let p = pick_end (row_ok w i pos) e _ (sym q ∙ is) in
+        record { below = omega (arith, row_facts w i pos p.0, p.1); rest = l.rest ∙ chain_step w (count_word w) i pos h ∙ rw (p.0, ← p.1) (ap (λ (k : ℕ). chain_ok w k (count_word w - k) e) (sym (add-one i))) }
 
-  module _ {i pos u : ℕ} (l : Linked w n i pos) (h : n ≤ i) (u-is : u ≡ used_word w) where
-    pub linked_all : pos ≡ u → true ≡ chain_ok w 0 (count_word w) 0
-    linked_all e = sym (counted w n n-is ∙ l.rest ∙ chain_end w n i pos h ∙ eq-eqb _ _ (e ∙ u-is))
+    pub linked_broken : o ≡ None → false ≡ chain_ok w 0 (count_word w) 0
+    unfolding row_end
+    linked_broken q = rw (l.rest, chain_step w (count_word w) i pos h, pick_bad (row_ok w i pos) _ (sym q ∙ is))
 
-    pub linked_short : (pos ≡ u → ⊥) → false ≡ chain_ok w 0 (count_word w) 0
-    linked_short e = sym (counted w n n-is ∙ l.rest ∙ chain_end w n i pos h ∙ ne_eqb _ _ (λ q. e (q ∙ sym u-is)))
-
-pub linked_none : (w : List ℕ) (n : ℕ) → Linked w n 0 0
-linked_none w n = record { within = omega arith; below = omega arith; rest = rw sub-zero }
-
-pub linked_more : {w : List ℕ} {n i pos : ℕ} {o : Row} {e : ℕ} → Linked w n i pos → i < n → o ≡ row_end w i pos → o ≡ End e → Linked w n (i + 1) e
-unfolding row_end
-linked_more {w} {n} {i} {pos} {o} {e} l h is q =
-    let p = pick_end (row_ok w i pos) e _ (sym q ∙ is) in
-    let f = row_facts w i pos p.0 in
-    record { within = omega arith; below = omega arith; rest = l.rest ∙ chain_next w n i pos h p.0 ∙ (λ z. chain_ok w (sym (add-one i) z) (n - sym (add-one i) z) (sym p.1 z)) }
+  pub linked_all : {u : ℕ} → count_word w ≤ i → u ≡ used_word w → eqb pos u ≡ chain_ok w 0 (count_word w) 0
+  linked_all h u-is = rw (l.rest, chain_end w (count_word w) i pos h, u-is)
 
 -- in a chain every version ends within the bytes used
 pub chain_ends : (w : List ℕ) (i n pos : ℕ) → chain_ok w i n pos ≡ true → (j : ℕ) → i ≤ j → j < i + n → end_word w j ≤ used_word w
@@ -225,45 +129,26 @@ unfolding versions_from version_at
 chain_seqs w b i zero pos e = tt
 chain_seqs w b i (suc n) pos e = ((chain_row w i n pos e).seq_fits, chain_seqs w b (suc i) n (end_word w i) (chain_rest w i n pos e))
 
--- a walk over the order: the versions up to place i are ascending, and `next` is the place after it
-pub record Ascending (w b : List ℕ) (n i next : ℕ) : Type 0 where
-  pub here : i < n
-  pub step : next ≡ suc i
-  pub counted : n ≡ count_word w
-  pub rest : sorted (versions_in w b) ≡ sorted_after (version_at w b i) (versions_from w b next (n - next))
+-- the versions are in order where each comes behind the one before it
+abbrev pub in_order : List ℕ → List ℕ → ℕ → Bool
+in_order w b j = before (version_at w b (j - 1)) (version_at w b j)
 
-pub sorted_none : (w b : List ℕ) {n : ℕ} → n ≡ count_word w → n ≡ 0 → true ≡ sorted (versions_in w b)
+ordered_from : (w b : List ℕ) (i n : ℕ) → list_all (in_order w b) (range_with_len (i + 1) n) ≡ sorted_after (version_at w b i) (versions_from w b (suc i) n)
+unfolding versions_from sorted_after ◌and◌
+ordered_from w b i zero = refl
+ordered_from w b i (suc n) =
+    let e : i + 1 - 1 ≡ i = omega arith in
+    rw (e, add-one i) (go (before (version_at w b i) (version_at w b (suc i))) (ordered_from w b (suc i) n))
+  where
+    go : (t : Bool) → list_all (in_order w b) (range_with_len (suc i + 1) n) ≡ sorted_after (version_at w b (suc i)) (versions_from w b (suc (suc i)) n)
+        → t && list_all (in_order w b) (range_with_len (suc i + 1) n) ≡ t and sorted_after (version_at w b (suc i)) (versions_from w b (suc (suc i)) n)
+    go true ih = ih
+    go false ih = refl
+
+pub ordered_all : (w b : List ℕ) (n : ℕ) → list_all (in_order w b) (range_with_len 1 (n - 1)) ≡ sorted (versions_from w b 0 n)
 unfolding versions_from
-sorted_none w b n-is e = rw (sym n-is ∙ e)
-
-module _ {w b : List ℕ} {n : ℕ} where
-  pub ascending_one : n ≡ count_word w → (n ≡ 0 → ⊥) → Ascending w b n 0 1
-  ascending_one n-is h =
-      let k : 0 < n = omega arith in
-      record { here = k; step = refl; counted = n-is; rest = ap sorted (ap (versions_from w b 0) (sym n-is ∙ sym (sub-zero n)) ∙ versions_next w b n 0 k) }
-
-  module _ {i next : ℕ} {o : Order} (a : Ascending w b n i next) (h : next < n) (is : o ≡ order_of (version_at w b i) (version_at w b next)) where
-    pub ascending_more : o ≡ Less → Ascending w b n next (next + 1)
-    unfolding sorted_after ◌and◌
-    ascending_more e = record { here = h; step = add-one next; counted = a.counted; rest = a.rest ∙ rw (versions_next w b n next h, ← is, e, add-one) }
-
-    pub ascending_equal : o ≡ Equal → false ≡ sorted (versions_in w b)
-    unfolding sorted_after ◌and◌
-    ascending_equal e = rw (a.rest, versions_next w b n next h, ← is, e)
-
-    pub ascending_greater : o ≡ Greater → false ≡ sorted (versions_in w b)
-    unfolding sorted_after ◌and◌
-    ascending_greater e = rw (a.rest, versions_next w b n next h, ← is, e)
-
-  pub ascending_here : {i next : ℕ} → Readable w b → Ascending w b n i next → RowIn w b i
-  ascending_here {i} rd a = row_in w b i rd (omega arith)
-
-  pub ascending_next : {i next : ℕ} → Readable w b → Ascending w b n i next → next < n → RowIn w b next
-  ascending_next {i} {next} rd a h = row_in w b next rd (omega arith)
-
-  pub ascending_all : {i next : ℕ} → Ascending w b n i next → n ≤ next → true ≡ sorted (versions_in w b)
-  unfolding sorted_after
-  ascending_all {i} {next} a h = rw (a.rest, versions_end w b n next h)
+ordered_all w b zero = refl
+ordered_all w b (suc n) = let e : suc n - 1 ≡ n = omega arith in rw e (ordered_from w b 0 n)
 
 -- the three tests together
 module _ (w b : List ℕ) {r : Bool} (r-is : r ≡ header_ok w b) where
@@ -321,9 +206,9 @@ pub validated : (w b : List ℕ) {r : Bool} → r ≡ valid_store w b → r ≡ 
 validated w b ok t = valid_facts w b (sym ok ∙ t)
 
 -- the newest sequence, from what a read at the last sequence finds
-module _ (w b k : List ℕ) {o : Found} (v : Valid w b) (is : o ≡ find_from 0 (versions_in w b) k (last_word w)) where
-  pub newest_of : {i q : ℕ} → o ≡ At i → q ≡ seq_word w i → q ≡ newest (versions_in w b) k
+module _ (w b k : List ℕ) {o : Option ℕ} (v : Valid w b) (is : o ≡ find_from 0 (versions_in w b) k (last_word w)) where
+  pub newest_of : {i q : ℕ} → o ≡ Some i → q ≡ seq_word w i → q ≡ newest (versions_in w b) k
   newest_of {i} e q-is = q-is ∙ sym (newest_at_lem w b k (last_word w) 0 (count_word w) i v.ordered (valid_seqs w b v.valid) (sym is ∙ e))
 
-  pub newest_none : o ≡ Nothing → 0 ≡ newest (versions_in w b) k
+  pub newest_none : o ≡ None → 0 ≡ newest (versions_in w b) k
   newest_none e = sym (newest_zero w b k (last_word w) 0 (count_word w) (valid_seqs w b v.valid) (sym is ∙ e))

@@ -5,23 +5,22 @@ use native.Mathlib.Nat.{le_of_lt, add-zero, max-eq_left}
 use mathlib.Core.Logic.{inl, inr}
 use mathlib.Core.List.{List, [], ◌∷◌}
 use mathlib.Core.Bool.{Bool, true, false, cond, false≢true}
-use mathlib.Core.Option.{Option}
+use Rattle.std.specs.Prelude.{Option}
 use mathlib.Core.Path.{◌≡◌, refl, sym, ap, ◌∙◌, subst}
 use lib.ListN.{length, drop}
 use lib.Dec.{leb, ltb}
 use borrow.Author.Tests.{le-leb, lt-leb, lt-ltb, le-ltb, ltb-true, ltb-false}
-use Rattle.base_key.specs.declared.Order.{Order}
-use Rattle.base_key.specs.declared.Order.TheVariants.{Less, Equal, Greater}
 use Rattle.base_key.specs.Bytes.{◌and◌}
 use Rattle.base_key.specs.Keys.{Key, compare_keys, order_of_versions, order_by, then_by, is_less, is_equal, same_key}
 use Rattle.base_key.proofs.Bytes.{and_left, and_right, and-false}
 use Rattle.base_key.proofs.Keys.{Precedes, precedes, precedes_trans, precedes_higher, compare_trans, compare_turned, turned, versions_turned, versions_differ, less_is, same_is, same_less}
-use Rattle.store_memtable.specs.declared.Found.{Found}
-use Rattle.store_memtable.specs.declared.Found.TheVariants.{At, Nothing}
 use Rattle.store_memtable.specs.Table.{Value, Write, update, find, write_all, Ascending}
 use Rattle.store_memtable.specs.Versions.{Version, Store, order_of, before, sorted, sorted_after, sees, read_at, find_from, newest, moved, insert, table, commit_one, commit, size_of, writes_size, versions_size}
 use Rattle.store_memtable.specs.Rows.{order_with, place_of, count_on}
 use Rattle.store_memtable.proofs.TableLaws.{ascending_update, find_update, update_swap}
+use Rattle.std.specs.Prelude.{None, Some}
+use Rattle.std.specs.declared.cmp.Ordering.TheVariants.{Less, Equal, Greater}
+use Rattle.std.specs.declared.cmp.Ordering.{Ordering}
 
 -- SORTED VERSIONS. v precedes u
 abbrev pub Ahead : Version → Version → Type 0
@@ -63,7 +62,7 @@ turned_same : (k : Key) (s : ℕ) (v : Version) → is_less (order_with k s v) �
 unfolding sees order_with order_of_versions same_key ◌and◌
 turned_same k s v e = go (compare_keys v.key k) e
   where
-    go : (o : Order) → is_less (then_by o (order_by (ltb s v.seq) (ltb v.seq s) Equal)) ≡ false → leb v.seq s and is_equal o ≡ is_equal o
+    go : (o : Ordering) → is_less (then_by o (order_by (ltb s v.seq) (ltb v.seq s) Equal)) ≡ false → leb v.seq s and is_equal o ≡ is_equal o
     go Less h = absurd (false≢true (sym h))
     go Greater h = and-false (leb v.seq s)
     go Equal h = rw (le-leb v.seq s (tie (ltb s v.seq) refl h))
@@ -77,7 +76,7 @@ later_key : (k : Key) (s : ℕ) (v : Version) → is_less (order_with k s v) ≡
 unfolding order_with order_of_versions same_key
 later_key k s v e f = compare_turned v.key k ∙ go (compare_keys v.key k) e f
   where
-    go : (o : Order) → is_less (then_by o (order_by (ltb s v.seq) (ltb v.seq s) Equal)) ≡ false → is_equal o ≡ false → turned o ≡ Less
+    go : (o : Ordering) → is_less (then_by o (order_by (ltb s v.seq) (ltb v.seq s) Equal)) ≡ false → is_equal o ≡ false → turned o ≡ Less
     go Less h q = absurd (false≢true (sym h))
     go Equal h q = absurd (false≢true (sym q))
     go Greater h q = refl
@@ -90,27 +89,27 @@ above_unseen : (k : Key) (s : ℕ) (u : Version) → compare_keys k u.key ≡ Le
 unfolding sees ◌and◌
 above_unseen k s u l = rw (compare_turned k u.key, l) (and-false (leb u.seq s))
 
-none_behind : (k : Key) (s j : ℕ) (v : Version) (us : List Version) → compare_keys k v.key ≡ Less → After v us → find_from j us k s ≡ Nothing
+none_behind : (k : Key) (s j : ℕ) (v : Version) (us : List Version) → compare_keys k v.key ≡ Less → After v us → find_from j us k s ≡ None
 unfolding find_from
 none_behind k s j v [] l a = refl
 none_behind k s j v (u ∷ us) l a = rw (above_unseen k s u (above_key k v u l a.0)) (none_behind k s (suc j) v us l a.1)
 
 -- what stands at the front decides
-abbrev pub found_here : ℕ → Key → List Version → Found
-found_here i k [] = Nothing
-found_here i k (v ∷ vs) = cond (same_key v.key k) (At i) Nothing
+abbrev pub found_here : ℕ → Key → List Version → Option ℕ
+found_here i k [] = None
+found_here i k (v ∷ vs) = cond (same_key v.key k) (Some i) None
 
 pub find_by_place : (i : ℕ) (vs : List Version) (k : Key) (s : ℕ) → sorted vs ≡ true → find_from i vs k s ≡ found_here (i + place_of k s vs) k (drop (place_of k s vs) vs)
 unfolding find_from place_of
 find_by_place i [] k s o = refl
 find_by_place i (v ∷ vs) k s o = go (is_less (order_with k s v)) refl (find_by_place (suc i) vs k s (sorted_rest v vs o))
   where
-    here : (t : Bool) → same_key v.key k ≡ t → is_less (order_with k s v) ≡ false → cond t (At i) (find_from (suc i) vs k s) ≡ cond t (At i) Nothing
+    here : (t : Bool) → same_key v.key k ≡ t → is_less (order_with k s v) ≡ false → cond t (Some i) (find_from (suc i) vs k s) ≡ cond t (Some i) None
     here true f e = refl
     here false f e = none_behind k s (suc i) v vs (later_key k s v e f) (all_after v vs o)
 
     go : (t : Bool) → is_less (order_with k s v) ≡ t → find_from (suc i) vs k s ≡ found_here (suc i + place_of k s vs) k (drop (place_of k s vs) vs)
-        → cond (sees k s v) (At i) (find_from (suc i) vs k s) ≡ found_here (i + count_on t (place_of k s vs)) k (drop (count_on t (place_of k s vs)) (v ∷ vs))
+        → cond (sees k s v) (Some i) (find_from (suc i) vs k s) ≡ found_here (i + count_on t (place_of k s vs)) k (drop (count_on t (place_of k s vs)) (v ∷ vs))
     go true e ih =
         let m : suc i + place_of k s vs ≡ i + suc (place_of k s vs) = omega arith in
         rw (before_unseen k s v e) (ih ∙ ap (λ (n : ℕ). found_here n k (drop (place_of k s vs) vs)) m)
@@ -197,7 +196,7 @@ pub before_newer : (u v : Version) → u.seq < v.seq → before u v ≡ is_less 
 unfolding order_of order_of_versions
 before_newer u v h = rw (le-ltb v.seq u.seq (le_of_lt h), lt-ltb u.seq v.seq h) (go (compare_keys u.key v.key))
   where
-    go : (o : Order) → is_less (then_by o Greater) ≡ is_less o
+    go : (o : Ordering) → is_less (then_by o Greater) ≡ is_less o
     go Less = refl
     go Equal = refl
     go Greater = refl
@@ -208,10 +207,10 @@ unfolding insert table
 table_insert s v [] b h = refl
 table_insert s v (u ∷ vs) b h = go (compare_keys u.key v.key) refl (table_insert s v vs b.1 h)
   where
-    earlier : (o : Order) → compare_keys u.key v.key ≡ o → before u v ≡ is_less o
+    earlier : (o : Ordering) → compare_keys u.key v.key ≡ o → before u v ≡ is_less o
     earlier o p = before_newer u v (omega (arith, b.0)) ∙ ap is_less p
 
-    go : (o : Order) → compare_keys u.key v.key ≡ o → table (insert v vs) ≡ update v.key v.value (table vs)
+    go : (o : Ordering) → compare_keys u.key v.key ≡ o → table (insert v vs) ≡ update v.key v.value (table vs)
         → table (insert v (u ∷ vs)) ≡ update v.key v.value (update u.key u.value (table vs))
     go Less p ih =
         rw (earlier Less p, insert) (rw ih (update_swap u.key v.key u.value v.value (table vs) (ascending_table vs) (same_less u.key v.key p)))
@@ -251,7 +250,7 @@ turn_before : (x v : Version) → x.seq < v.seq → before x v ≡ false → bef
 unfolding order_of
 turn_before x v h e = ap is_less (versions_turned x.key x.seq v.key v.seq) ∙ go _ (versions_differ x.key x.seq v.key v.seq h) e
   where
-    go : (o : Order) → (o ≡ Equal → ⊥) → is_less o ≡ false → is_less (turned o) ≡ true
+    go : (o : Ordering) → (o ≡ Equal → ⊥) → is_less o ≡ false → is_less (turned o) ≡ true
     go Less n q = sym q
     go Equal n q = absurd (n refl)
     go Greater n q = refl

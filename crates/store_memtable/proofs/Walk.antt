@@ -3,27 +3,24 @@ use mathlib.Core.Path.{◌≡◌, refl, sym, ap, ◌∙◌, subst}
 use mathlib.Core.Logic.{◌⊎◌, inl, inr, ⊎_elim}
 use mathlib.Core.Bool.{Bool, true, false, cond, not}
 use mathlib.Core.List.{List, [], ◌∷◌}
-use mathlib.Core.Option.{Option, none, some}
+use Rattle.std.specs.Prelude.{Option, None, Some}
 use Prim.Native.Nat.{ℕ, zero, suc, ◌+◌, ◌-◌, ◌≤◌, ◌<◌}
-use native.Mathlib.Nat.{sub-zero}
 use native.Mathlib.Numerals.{add-one}
 use native.Mathlib.Omega.{arith}
 use lib.ListN.{length}
-use borrow.Author.Tests.{eq-eqb, ne_eqb}
-use Rattle.base_key.specs.declared.Order.{Order}
-use Rattle.base_key.specs.declared.Order.TheVariants.{Less, Equal, Greater}
+use borrow.Author.Tests.{ne_eqb}
 use Rattle.base_key.specs.Bytes.{◌and◌}
 use Rattle.base_key.specs.Keys.{Key, compare_keys, same_key}
 use Rattle.base_key.proofs.Bytes.{and_left, and_right}
 use Rattle.base_key.proofs.Keys.{Precedes, precedes, less_is, same_is, same_refl, compare_refl, compare_trans}
-use Rattle.store_memtable.specs.declared.Found.{Found}
-use Rattle.store_memtable.specs.declared.Found.TheVariants.{At, Nothing}
 use Rattle.store_memtable.specs.Table.{Value, Table, entered, update}
 use Rattle.store_memtable.specs.Versions.{Version, bytes_of, table, sorted, sorted_after, before, order_of}
-use Rattle.store_memtable.specs.Layout.{count_word, value_word, value_of_word, version_at, versions_from}
-use Rattle.store_memtable.specs.Rows.{versions_in, RowIn, Readable, Valid}
+use Rattle.store_memtable.specs.Layout.{count_word, version_at, versions_from}
+use Rattle.store_memtable.specs.Rows.{versions_in, RowIn, Valid}
 use Rattle.store_memtable.specs.Walk.{is_live, newest_at, live_at, entry_at, live_from, next_live}
-use Rattle.store_memtable.proofs.Rows.{row_of, row_in, row_before}
+use Rattle.store_memtable.proofs.Rows.{row_of}
+use Rattle.std.specs.declared.cmp.Ordering.TheVariants.{Less, Equal, Greater}
+use Rattle.std.specs.declared.cmp.Ordering.{Ordering}
 
 -- THE TABLE OF SORTED VERSIONS. p stands before the list: a version counts where it has another key than the one before it
 pub entries_after : Version → List Version → Table
@@ -42,11 +39,11 @@ above_less k l (e ∷ t) h a = compare_trans k l e.0 h a
 update_above : (k : Key) (x : Option Value) (t : Table) → Above k t → update k x t ≡ entered k x t
 unfolding update
 update_above k x [] a = refl
-update_above k x (e ∷ t) a = ap (λ (o : Order). elim o [ Less ↦ entered k x (e ∷ t) | Equal ↦ entered k x t | Greater ↦ e ∷ update k x t ]) a
+update_above k x (e ∷ t) a = ap (λ (o : Ordering). elim o [ Less ↦ entered k x (e ∷ t) | Equal ↦ entered k x t | Greater ↦ e ∷ update k x t ]) a
 
 update_same : (k : Key) (x : Option Value) (a : Value) (t : Table) → update k x ((k, a) ∷ t) ≡ entered k x t
 unfolding update
-update_same k x a t = ap (λ (o : Order). elim o [ Less ↦ entered k x ((k, a) ∷ t) | Equal ↦ entered k x t | Greater ↦ (k, a) ∷ update k x t ]) (compare_refl k)
+update_same k x a t = ap (λ (o : Ordering). elim o [ Less ↦ entered k x ((k, a) ∷ t) | Equal ↦ entered k x t | Greater ↦ (k, a) ∷ update k x t ]) (compare_refl k)
 
 -- two neighbours have one key, or ascending ones
 neighbours : (v u : Version) → before v u ≡ true → (same_key v.key u.key ≡ true) ⊎ ((same_key v.key u.key ≡ false) × (compare_keys v.key u.key ≡ Less))
@@ -58,8 +55,8 @@ neighbours v u e = go (precedes v.key v.seq u.key u.seq (less_is _ e))
     go (inr q) = inl (subst (λ (x : Key). same_key v.key x ≡ true) q.0 (same_refl v.key))
 
 entered_above : (k l : Key) (x : Option Value) (t : Table) → compare_keys k l ≡ Less → Above l t → Above k (entered l x t)
-entered_above k l none t h a = above_less k l t h a
-entered_above k l (some v) t h a = h
+entered_above k l None t h a = above_less k l t h a
+entered_above k l (Some v) t h a = h
 
 entries_above : (v : Version) (us : List Version) → sorted_after v us ≡ true → Above v.key (entries_after v us)
 unfolding entries_after sorted_after
@@ -73,8 +70,8 @@ entries_above v (u ∷ us) o =
 
 -- an entry put in front of those of its own key's older version
 update_older : (k : Key) (x y : Option Value) (t : Table) → Above k t → update k x (entered k y t) ≡ entered k x t
-update_older k x none t a = update_above k x t a
-update_older k x (some v) t a = update_same k x v t
+update_older k x None t a = update_above k x t a
+update_older k x (Some v) t a = update_same k x v t
 
 pub table_entries : (v : Version) (us : List Version) → sorted_after v us ≡ true → table (v ∷ us) ≡ entered v.key v.value (entries_after v us)
 unfolding table entries_after sorted_after update
@@ -96,10 +93,10 @@ table_entries v (u ∷ us) o =
 live_step : (t : Bool) (k : Key) (x : Option Value) (r : Table)
     → cond (is_live x and not t) ((k, bytes_of x) ∷ r) r ≡ cond t r (entered k x r)
 unfolding ◌and◌
-live_step true k none r = refl
-live_step true k (some a) r = refl
-live_step false k none r = refl
-live_step false k (some a) r = refl
+live_step true k None r = refl
+live_step true k (Some a) r = refl
+live_step false k None r = refl
+live_step false k (Some a) r = refl
 
 module _ (w b : List ℕ) where
   newest_next : (i : ℕ) → newest_at w b (suc i) ≡ not (same_key (version_at w b i).key (version_at w b (suc i)).key)
@@ -132,13 +129,13 @@ module _ (w b : List ℕ) where
   live_table v = live_all (count_word w) v.ordered
 
   -- what the walk finds: the next entry, or that there is none; n versions are left from place i on
-  pub walk_entry : (i n j : ℕ) → next_live w b i n ≡ At j → (i ≤ j) × ((j < i + n) × (live_from w b i n ≡ entry_at w b j ∷ live_from w b (suc j) (i + n - suc j)))
+  pub walk_entry : (i n j : ℕ) → next_live w b i n ≡ Some j → (i ≤ j) × ((j < i + n) × (live_from w b i n ≡ entry_at w b j ∷ live_from w b (suc j) (i + n - suc j)))
   unfolding next_live live_from
   walk_entry i zero j e = let z : ◌≡◌ {A = ℕ} 0 1 = cc in absurd (omega arith)
   walk_entry i (suc n) j e = go (live_at w b i) e (walk_entry (suc i) n j)
     where
-      go : (t : Bool) → cond t (At i) (next_live w b (suc i) n) ≡ At j
-          → (next_live w b (suc i) n ≡ At j → (suc i ≤ j) × ((j < suc i + n) × (live_from w b (suc i) n ≡ entry_at w b j ∷ live_from w b (suc j) (suc i + n - suc j))))
+      go : (t : Bool) → cond t (Some i) (next_live w b (suc i) n) ≡ Some j
+          → (next_live w b (suc i) n ≡ Some j → (suc i ≤ j) × ((j < suc i + n) × (live_from w b (suc i) n ≡ entry_at w b j ∷ live_from w b (suc j) (suc i + n - suc j))))
           → (i ≤ j) × ((j < i + suc n) × (cond t (entry_at w b i ∷ live_from w b (suc i) n) (live_from w b (suc i) n) ≡ entry_at w b j ∷ live_from w b (suc j) (i + suc n - suc j)))
       go true q ih =
           let h : i ≡ j = cc in
@@ -149,18 +146,18 @@ module _ (w b : List ℕ) where
           let m : suc i + n ≡ i + suc n = omega arith in
           (omega (arith, r.0), (omega (arith, r.1.0), r.1.1 ∙ ap (λ (x : ℕ). entry_at w b j ∷ live_from w b (suc j) (x - suc j)) m))
 
-  pub walk_over : (i n : ℕ) → next_live w b i n ≡ Nothing → live_from w b i n ≡ []
+  pub walk_over : (i n : ℕ) → next_live w b i n ≡ None → live_from w b i n ≡ []
   unfolding next_live live_from
   walk_over i zero e = refl
   walk_over i (suc n) e = go (live_at w b i) e (walk_over (suc i) n)
     where
-      go : (t : Bool) → cond t (At i) (next_live w b (suc i) n) ≡ Nothing → (next_live w b (suc i) n ≡ Nothing → live_from w b (suc i) n ≡ [])
+      go : (t : Bool) → cond t (Some i) (next_live w b (suc i) n) ≡ None → (next_live w b (suc i) n ≡ None → live_from w b (suc i) n ≡ [])
           → cond t (entry_at w b i ∷ live_from w b (suc i) n) (live_from w b (suc i) n) ≡ []
       go true q ih = let z : ◌≡◌ {A = ℕ} 0 1 = cc in absurd (omega arith)
       go false q ih = ih q
 
 -- the place that a walk to the last version finds
-module _ (w b : List ℕ) (i : ℕ) {o : Found} (is : o ≡ next_live w b i (count_word w - i)) {j : ℕ} (e : o ≡ At j) where
+module _ (w b : List ℕ) (i : ℕ) {o : Option ℕ} (is : o ≡ next_live w b i (count_word w - i)) {j : ℕ} (e : o ≡ Some j) where
   pub found_from : i ≤ j
   found_from = (walk_entry w b i (count_word w - i) j (sym is ∙ e)).0
 
@@ -170,108 +167,29 @@ module _ (w b : List ℕ) (i : ℕ) {o : Found} (is : o ≡ next_live w b i (cou
   pub found_row : Valid w b → RowIn w b j
   found_row v = row_of w b j v found_below
 
--- one key of two versions, from their keys l and m
-pub same_keys : (w b : List ℕ) (i j : ℕ) {r : Bool} {l m : List ℕ} → l ≡ (version_at w b i).key → m ≡ (version_at w b j).key → r ≡ same_key l m
-    → r ≡ same_key (version_at w b i).key (version_at w b j).key
-same_keys w b i j p q is = is ∙ (λ z. same_key (p z) (q z))
-
--- what decides whether version i is live
-module _ (w b : List ℕ) (i : ℕ) where
-  pub dead_at : value_word w i ≡ 0 → false ≡ live_at w b i
-  unfolding live_at version_at ◌and◌
-  dead_at e = rw e
-
-  value_live : (x : ℕ) (l : List ℕ) → (x ≡ 0 → ⊥) → is_live (value_of_word x l) ≡ true
-  value_live zero l h = absurd (h refl)
-  value_live (suc x) l h = refl
-
-  live_is : (value_word w i ≡ 0 → ⊥) → live_at w b i ≡ newest_at w b i
-  unfolding live_at version_at ◌and◌
-  live_is h = rw (value_live (value_word w i) _ h)
-
-  module _ (h : value_word w i ≡ 0 → ⊥) where
-    pub live_first : i ≡ 0 → true ≡ live_at w b i
-    unfolding newest_at
-    live_first e = rw (live_is h, eq-eqb i 0 e)
-
-    module _ {r : Bool} (k : i ≡ 0 → ⊥) (is : r ≡ same_key (version_at w b (i - 1)).key (version_at w b i).key) where
-      pub live_later : r ≡ true → false ≡ live_at w b i
-      unfolding newest_at
-      live_later e = rw (live_is h, ne_eqb i 0 k, ← is, e)
-
-      pub live_newest : r ≡ false → true ≡ live_at w b i
-      unfolding newest_at
-      live_newest e = rw (live_is h, ne_eqb i 0 k, ← is, e)
-
--- a walk from place f that has met no live version before place i
-pub record Walking (w b : List ℕ) (n f i : ℕ) : Type 0 where
-  pub counted : n ≡ count_word w
-  pub rest : next_live w b f (n - f) ≡ next_live w b i (n - i)
-
-pub walk_none : (w b : List ℕ) {n : ℕ} (f : ℕ) → n ≡ count_word w → Walking w b n f f
-walk_none w b f e = record { counted = e; rest = refl }
-
-next_is : (w b : List ℕ) (n i : ℕ) → i < n → next_live w b i (n - i) ≡ cond (live_at w b i) (At i) (next_live w b (suc i) (n - suc i))
+-- a walk by places: at place i it stops, or goes on behind it
+pub next_step : (w b : List ℕ) (n i : ℕ) → i < n → next_live w b i (n - i) ≡ cond (live_at w b i) (Some i) (next_live w b (i + 1) (n - (i + 1)))
 unfolding next_live
-next_is w b n i h = let e : n - i ≡ suc (n - suc i) = omega arith in rw e
+next_step w b n i h = let e : n - i ≡ suc (n - suc i) = omega arith in rw (e, add-one)
 
-module _ {w b : List ℕ} {n f i : ℕ} (k : Walking w b n f i) where
-  whole : next_live w b f (count_word w - f) ≡ next_live w b i (n - i)
-  whole = ap (λ (x : ℕ). next_live w b f (x - f)) (sym k.counted) ∙ k.rest
+pub next_end : (w b : List ℕ) (n i : ℕ) → n ≤ i → next_live w b i (n - i) ≡ None
+unfolding next_live
+next_end w b n i h = let e : n - i ≡ 0 = omega arith in rw e
 
-  pub walk_row : Readable w b → i < n → RowIn w b i
-  walk_row rd h = row_in w b i rd (omega arith)
-
-  pub walk_row_before : Readable w b → i < n → RowIn w b (i - 1)
-  walk_row_before rd h = row_before w b i rd (omega arith)
-
-  module _ {r : Bool} (h : i < n) (is : r ≡ live_at w b i) where
-    pub walk_more : r ≡ false → Walking w b n f (i + 1)
-    walk_more e = record { counted = k.counted; rest = k.rest ∙ next_is w b n i h ∙ rw (← is, e, add-one) }
-
-    pub walk_here : r ≡ true → At i ≡ next_live w b f (count_word w - f)
-    walk_here e = rw (whole, next_is w b n i h, ← is, e)
-
-  pub walk_end : n ≤ i → Nothing ≡ next_live w b f (count_word w - f)
-  unfolding next_live
-  walk_end h = let e : n - i ≡ 0 = omega arith in rw (whole, e)
-
--- a count of the live versions before place i
-pub record Counting (w b : List ℕ) (n live i : ℕ) : Type 0 where
-  pub counted : n ≡ count_word w
-  pub few : live ≤ i
-  pub within : i ≤ n
-  pub rest : length (live_from w b 0 n) ≡ live + length (live_from w b i (n - i))
-
-pub count_none : (w b : List ℕ) {n : ℕ} → n ≡ count_word w → Counting w b n 0 0
-count_none w b {n} e = record { counted = e; few = omega arith; within = omega arith; rest = rw (sub-zero n) (omega arith) }
-
-live_next : (w b : List ℕ) (n i : ℕ) → i < n → live_from w b i (n - i) ≡ cond (live_at w b i) (entry_at w b i ∷ live_from w b (suc i) (n - suc i)) (live_from w b (suc i) (n - suc i))
+-- a count of the live places: at place i it is one more where that is live
+pub count_step : (w b : List ℕ) (n i : ℕ) → i < n → length (live_from w b i (n - i)) ≡ cond (live_at w b i) 1 0 + length (live_from w b (i + 1) (n - (i + 1)))
 unfolding live_from
-live_next w b n i h = let e : n - i ≡ suc (n - suc i) = omega arith in rw e
+count_step w b n i h =
+    let e : n - i ≡ suc (n - suc i) = omega arith in
+    rw (e, add-one) (go (live_at w b i))
+  where
+    go : (t : Bool) → length (cond t (entry_at w b i ∷ live_from w b (suc i) (n - suc i)) (live_from w b (suc i) (n - suc i))) ≡ cond t 1 0 + length (live_from w b (suc i) (n - suc i))
+    go true = omega arith
+    go false = omega arith
 
-module _ {w b : List ℕ} {n live i : ℕ} (c : Counting w b n live i) where
-  pub count_row : Valid w b → i < n → RowIn w b i
-  count_row v h = row_in w b i v.readable (omega arith)
+pub count_end : (w b : List ℕ) (n i : ℕ) → n ≤ i → length (live_from w b i (n - i)) ≡ 0
+unfolding live_from
+count_end w b n i h = let e : n - i ≡ 0 = omega arith in rw e
 
-  pub count_row_before : Valid w b → i < n → RowIn w b (i - 1)
-  count_row_before v h = row_before w b i v.readable (omega arith)
-
-  module _ {r : Bool} (h : i < n) (is : r ≡ live_at w b i) where
-    pub count_live : r ≡ true → Counting w b n (live + 1) (i + 1)
-    count_live e =
-        let q : length (live_from w b i (n - i)) ≡ suc (length (live_from w b (suc i) (n - suc i))) = ap length (live_next w b n i h) ∙ rw (← is, e) in
-        record { counted = c.counted; few = omega arith; within = omega arith; rest = rw (add-one i) (omega arith) }
-
-    pub count_dead : r ≡ false → Counting w b n live (i + 1)
-    count_dead e =
-        let q : length (live_from w b i (n - i)) ≡ length (live_from w b (suc i) (n - suc i)) = ap length (live_next w b n i h) ∙ rw (← is, e) in
-        record { counted = c.counted; few = omega arith; within = omega arith; rest = rw (add-one i) (omega arith) }
-
-  pub count_all : Valid w b → n ≤ i → live ≡ length (table (versions_in w b))
-  unfolding live_from
-  count_all v h =
-      let e : n - i ≡ 0 = omega arith in
-      let q : length (live_from w b i (n - i)) ≡ 0 = ap (λ (x : ℕ). length (live_from w b i x)) e in
-      let t : length (live_from w b 0 n) ≡ length (table (versions_in w b)) = ap (λ (x : ℕ). length (live_from w b 0 x)) c.counted ∙ ap length (live_table w b v) in
-      omega arith
+pub count_all : (w b : List ℕ) → Valid w b → length (live_from w b 0 (count_word w)) ≡ length (table (versions_in w b))
+count_all w b v = ap length (live_table w b v)

@@ -1,7 +1,7 @@
 -- How a store lies in lent words and bytes: five header words, then four words for each version; the bytes of the versions
 -- stand one behind the other, each key with its value behind it.
 use Rattle.std.specs.Prelude.{ℕ, zero, suc, ◌+◌, ◌-◌, ◌*◌, Bool, true, false, List, [], ◌∷◌, ◌++◌, leb, eqb, length, get_or}
-use Rattle.std.proofs.Math.Option.{Option, none, some}
+use Rattle.std.specs.Prelude.{Option, None, Some}
 use Rattle.base_key.specs.Bytes.{Bytes, ◌and◌, part, over_front}
 use Rattle.store_memtable.specs.Table.{Value}
 use Rattle.store_memtable.specs.Versions.{Version, Store, sorted, bytes_of}
@@ -61,8 +61,8 @@ module _ (w : List ℕ) where
 
 -- a value from its word and its bytes
 abbrev pub value_of_word : ℕ → Bytes → Option Value
-value_of_word zero b = none
-value_of_word (suc n) b = some b
+value_of_word zero b = None
+value_of_word (suc n) b = Some b
 
 -- the part of the store's bytes that holds the value of version i
 abbrev pub value_part : List ℕ → Bytes → ℕ → Bytes
@@ -113,8 +113,8 @@ valid_store w b = header_ok w b and chain_ok w 0 (count_word w) 0 and sorted (st
 
 -- WRITTEN BACK. What stands in front of the words and bytes; what lies behind stays as it was.
 abbrev pub word_of_value : Option Value → ℕ
-word_of_value none = 0
-word_of_value (some v) = suc (length v)
+word_of_value None = 0
+word_of_value (Some v) = suc (length v)
 
 -- the rows of versions whose bytes start at pos
 unfoldable pub row_words : ℕ → List Version → List ℕ

@@ -1,9 +1,11 @@
 -- Readers, writes and tables: what a command reads and writes, whatever lies behind.
 use Rattle.std.specs.Prelude.{cond, List, [], ◌∷◌, map, ◌≡◌}
-use Rattle.std.proofs.Math.Option.{Option, none, some}
-use Rattle.base_key.specs.declared.Order.TheVariants.{Less, Equal, Greater}
+use Rattle.std.specs.Coded.{×_prop, Unit-prop}
+use Rattle.std.specs.Prelude.{Option, None, Some}
+use Rattle.std.proofs.Props.{props}
 use Rattle.base_key.specs.Bytes.{Bytes}
 use Rattle.base_key.specs.Keys.{Key, compare_keys, same_key}
+use Rattle.std.specs.declared.cmp.Ordering.TheVariants.{Less, Equal, Greater}
 
 -- a value: any bytes
 abbrev pub Value : Type 0
@@ -36,10 +38,19 @@ module _ {A : Type 0} where
   Ascending [] = Unit {0}
   Ascending (e ∷ t) = Above e.0 t × Ascending t
 
+  -- each of these facts has one proof at most
+  pub Above-prop : (k : Key) (t : List (Entry A)) → IsProp (Above k t)
+  Above-prop k [] = Unit-prop
+  Above-prop k (e ∷ t) = ×_prop (Prim.hlevel props) (Above-prop k t)
+
+  pub Ascending-prop : (t : List (Entry A)) → IsProp (Ascending t)
+  Ascending-prop [] = Unit-prop
+  Ascending-prop (e ∷ t) = ×_prop (Above-prop e.0 t) (Ascending-prop t)
+
   -- the entry in front, or none
   abbrev pub entered : Key → Option A → List (Entry A) → List (Entry A)
-  entered k none t = t
-  entered k (some a) t = (k, a) ∷ t
+  entered k None t = t
+  entered k (Some a) t = (k, a) ∷ t
 
   -- the ascending list in which `k` holds `new`, or is absent where that is `none`
   unfoldable pub update : Key → Option A → List (Entry A) → List (Entry A)
@@ -48,8 +59,8 @@ module _ {A : Type 0} where
 
   -- what a key holds
   unfoldable pub find : List (Entry A) → Key → Option A
-  find [] k = none
-  find (e ∷ t) k = cond (same_key e.0 k) (some e.1) (find t k)
+  find [] k = None
+  find (e ∷ t) k = cond (same_key e.0 k) (Some e.1) (find t k)
 
 -- the keys of writes
 abbrev pub keys_of : List Write → List Key
@@ -72,4 +83,4 @@ write_all (w ∷ ws) t = write_all ws (update w.0 w.1 t)
 -- one write per key, the last, in ascending order of key
 unfoldable pub last_writes : List Write → List Write → List Write
 last_writes done [] = done
-last_writes done (w ∷ ws) = last_writes (update w.0 (some w.1) done) ws
+last_writes done (w ∷ ws) = last_writes (update w.0 (Some w.1) done) ws

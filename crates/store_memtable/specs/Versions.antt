@@ -1,12 +1,10 @@
 -- Value of a key (document 01, section 2): versions, the store, and what is read of it.
 use Rattle.std.specs.Prelude.{ℕ, suc, ◌+◌, max, Bool, true, false, cond, List, [], ◌∷◌, leb, ltb, length}
-use Rattle.std.proofs.Math.Option.{Option, none, some}
-use Rattle.base_key.specs.declared.Order.{Order}
+use Rattle.std.specs.Prelude.{Option, None, Some}
 use Rattle.base_key.specs.Bytes.{Bytes, ◌and◌}
 use Rattle.base_key.specs.Keys.{Key, compare_keys, order_of_versions, is_less, is_equal, same_key}
-use Rattle.store_memtable.specs.declared.Found.{Found}
-use Rattle.store_memtable.specs.declared.Found.TheVariants.{At, Nothing}
 use Rattle.store_memtable.specs.Table.{Value, Reader, Write, Table, update}
+use Rattle.std.specs.declared.cmp.Ordering.{Ordering}
 
 -- a value of `none` is a tombstone
 pub record Version : Type 0 where
@@ -22,7 +20,7 @@ pub record Store : Type 0 where
   pub most_bytes : ℕ
 
 -- how two versions stand in the order of versions
-unfoldable pub order_of : Version → Version → Order
+unfoldable pub order_of : Version → Version → Ordering
 order_of v u = order_of_versions v.key v.seq u.key u.seq
 
 -- v comes before u
@@ -45,13 +43,13 @@ sees k s v = leb v.seq s and is_equal (compare_keys v.key k)
 
 -- the key's version with the highest sequence not above s: in the order of versions, the first such
 unfoldable pub read_at : ℕ → List Version → Reader
-read_at s [] k = none
+read_at s [] k = None
 read_at s (v ∷ vs) k = cond (sees k s v) v.value (read_at s vs k)
 
 -- the place of that version; the list starts at place i
-unfoldable pub find_from : ℕ → List Version → Key → ℕ → Found
-find_from i [] k s = Nothing
-find_from i (v ∷ vs) k s = cond (sees k s v) (At i) (find_from (suc i) vs k s)
+unfoldable pub find_from : ℕ → List Version → Key → ℕ → Option ℕ
+find_from i [] k s = None
+find_from i (v ∷ vs) k s = cond (sees k s v) (Some i) (find_from (suc i) vs k s)
 
 -- the highest sequence among the key's versions, tombstones included; 0 where it has none
 unfoldable pub newest : List Version → Key → ℕ
@@ -89,8 +87,8 @@ commit (w ∷ ws) st = commit ws (commit_one w st)
 
 -- the bytes of a value: none of a tombstone
 abbrev pub bytes_of : Option Value → Bytes
-bytes_of none = []
-bytes_of (some v) = v
+bytes_of None = []
+bytes_of (Some v) = v
 
 -- key plus value bytes
 abbrev pub size_of : Key → Option Value → ℕ

@@ -1,17 +1,15 @@
 -- The walk over the live keys by places: a version is live where it has a value and the one before it has another key.
 use Rattle.std.specs.Prelude.{ℕ, zero, suc, ◌-◌, Bool, true, false, cond, not, List, [], ◌∷◌, eqb}
-use Rattle.std.proofs.Math.Option.{Option, none, some}
+use Rattle.std.specs.Prelude.{Option, None, Some}
 use Rattle.base_key.specs.Bytes.{Bytes, ◌and◌}
 use Rattle.base_key.specs.Keys.{same_key}
-use Rattle.store_memtable.specs.declared.Found.{Found}
-use Rattle.store_memtable.specs.declared.Found.TheVariants.{At, Nothing}
 use Rattle.store_memtable.specs.Table.{Value, Entry, Table}
 use Rattle.store_memtable.specs.Versions.{bytes_of}
 use Rattle.store_memtable.specs.Layout.{version_at}
 
 abbrev pub is_live : Option Value → Bool
-is_live none = false
-is_live (some v) = true
+is_live None = false
+is_live (Some v) = true
 
 -- the first of its key's versions, which is the newest
 unfoldable pub newest_at : List ℕ → Bytes → ℕ → Bool
@@ -30,6 +28,6 @@ live_from w b i zero = []
 live_from w b i (suc n) = cond (live_at w b i) (entry_at w b i ∷ live_from w b (suc i) n) (live_from w b (suc i) n)
 
 -- the place of the first of them
-unfoldable pub next_live : List ℕ → Bytes → ℕ → ℕ → Found
-next_live w b i zero = Nothing
-next_live w b i (suc n) = cond (live_at w b i) (At i) (next_live w b (suc i) n)
+unfoldable pub next_live : List ℕ → Bytes → ℕ → ℕ → Option ℕ
+next_live w b i zero = None
+next_live w b i (suc n) = cond (live_at w b i) (Some i) (next_live w b (suc i) n)

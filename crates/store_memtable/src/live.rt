@@ -6,7 +6,7 @@ ghost use Rattle.store_memtable.specs.Layout.{count_word, version_at};
 ghost use Rattle.store_memtable.specs.Rows.{Readable, RowIn, Valid, versions_in};
 ghost use Rattle.store_memtable.specs.Walk.{live_at, next_live};
 
-use crate::{Found, read};
+use crate::read;
 
 // Have the versions i and j one key?
 fn same_key(words: &[u64], bytes: &[u8], i: usize, j: usize) -> bool
@@ -18,55 +18,23 @@ fn same_key(words: &[u64], bytes: &[u8], i: usize, j: usize) -> bool
 }
 
 // Is version i its key's newest, and no tombstone?
-fn live_at(words: &[u64], bytes: &[u8], i: usize) -> bool
+pub fn live_at(words: &[u64], bytes: &[u8], i: usize) -> bool
     requires row_in { RowIn words.now bytes.now i }
     requires row_in_2 { RowIn words.now bytes.now (i - 1) }
     ensures { result ≡ live_at words.now bytes.now i }
 {
-    let row = 5 + 4 * i;
-    if words[row + 2] == 0 {
-        return false;
-    }
-    if i == 0 {
-        return true;
-    }
-    if same_key(words, bytes, i - 1, i) {
-        return false;
-    }
-    true
+    !read::is_tombstone(words, i) && (i == 0 || !same_key(words, bytes, i - 1, i))
 }
 
 // The first live place from `from` on.
-pub fn next_live(words: &[u64], bytes: &[u8], from: usize) -> Found
+pub fn next_live(words: &[u64], bytes: &[u8], from: usize) -> Option<usize>
     requires { Readable words.now bytes.now }
     ensures { result ≡ next_live words.now bytes.now from (count_word words.now - from) }
 {
-    let n = read::word(words, 0);
-    let mut i = from;
-    while i < n {
+    for i in from..read::word(words, 0) {
         if live_at(words, bytes, i) {
-            return Found::At(i);
-        }
-        i += 1;
-    }
-    Found::Nothing
-}
-
-// How many keys are live.
-pub fn count_live(words: &[u64], bytes: &[u8]) -> usize
-    requires { Valid words.now bytes.now }
-    ensures { result ≡ length (table (versions_in words.now bytes.now)) }
-{
-    let n = read::word(words, 0);
-    let mut live = 0;
-    let mut i = 0;
-    while i < n {
-        if live_at(words, bytes, i) {
-            live += 1;
-            i += 1;
-        } else {
-            i += 1;
+            return Some(i);
         }
     }
-    live
+    None
 }

@@ -6,8 +6,9 @@ ghost use Rattle.store_memtable.specs.Layout.{seq_word, value_part, value_word, 
 ghost use Rattle.store_memtable.specs.Rows.{RowIn, Valid, live_found, order_with, place_of, versions_in};
 ghost use Rattle.store_memtable.specs.Merging.{FrontIn};
 
-use crate::{Found, LAST};
-use base_key::Order;
+use crate::search;
+use crate::store::Store;
+use std::cmp::Ordering;
 
 // A word as an index.
 fn index(x: u64) -> usize
@@ -28,7 +29,7 @@ pub fn word(words: &[u64], at: usize) -> usize
 pub fn value_len(word: usize) -> usize
     ensures { result ≡ word - 1 }
 {
-    if word == 0 { 0 } else { word - 1 }
+    word.saturating_sub(1)
 }
 
 // The bytes of version i's key.
@@ -72,18 +73,16 @@ pub fn is_tombstone(words: &[u64], i: usize) -> bool
 }
 
 // How version i stands to version j.
-pub fn order_of(words: &[u64], bytes: &[u8], i: usize, j: usize) -> Order
+pub fn order_of(words: &[u64], bytes: &[u8], i: usize, j: usize) -> Ordering
     requires row_in { RowIn words.now bytes.now i }
     requires row_in_2 { RowIn words.now bytes.now j }
     ensures { result ≡ order_of (version_at words.now bytes.now i) (version_at words.now bytes.now j) }
 {
-    let row_i = 5 + 4 * i;
-    let row_j = 5 + 4 * j;
     base_key::compare_versions(
         key_of(words, bytes, i),
-        words[row_i + 3],
+        seq_of(words, i),
         key_of(words, bytes, j),
-        words[row_j + 3],
+        seq_of(words, j),
     )
 }
 
@@ -92,13 +91,8 @@ fn comes_before(words: &[u64], bytes: &[u8], i: usize, name: &[u8], seq: u64) ->
     requires { RowIn words.now bytes.now i }
     ensures { result ≡ is_less (order_with name.now seq (version_at words.now bytes.now i)) }
 {
-    let row = 5 + 4 * i;
-    let order = base_key::compare_versions(key_of(words, bytes, i), words[row + 3], name, seq);
-    match order {
-        Order::Less => true,
-        Order::Equal => false,
-        Order::Greater => false,
-    }
+    let order = base_key::compare_versions(key_of(words, bytes, i), seq_of(words, i), name, seq);
+    matches!(order, Ordering::Less)
 }
 
 // How many of the first `rows` versions come before `name` at `seq`, by halves.
@@ -106,25 +100,7 @@ pub fn place_in(words: &[u64], bytes: &[u8], rows: usize, name: &[u8], seq: u64)
     requires { FrontIn words.now bytes.now rows }
     ensures { result ≡ place_of name.now seq (versions_from words.now bytes.now 0 rows) }
 {
-    let mut low = 0;
-    let mut high = rows;
-    while low < high {
-        let mid = low + (high - low) / 2;
-        if comes_before(words, bytes, mid, name, seq) {
-            low = mid + 1;
-        } else {
-            high = mid;
-        }
-    }
-    low
-}
-
-// How many versions come before `name` at `seq`: the place to insert it, and to find it.
-pub fn place(words: &[u64], bytes: &[u8], name: &[u8], seq: u64) -> usize
-    requires { Valid words.now bytes.now }
-    ensures { result ≡ place_of name.now seq (versions_in words.now bytes.now) }
-{
-    place_in(words, bytes, word(words, 0), name, seq)
+    search::partition_point(rows, |i| comes_before(words, bytes, i, name, seq))
 }
 
 // Is version i one of `name`?
@@ -135,48 +111,12 @@ pub fn is_of(words: &[u64], bytes: &[u8], i: usize, name: &[u8]) -> bool
     base_key::same(key_of(words, bytes, i), name)
 }
 
-// The place of the version that a read of `name` at `seq` finds.
-pub fn find(words: &[u64], bytes: &[u8], name: &[u8], seq: u64) -> Found
-    requires { Valid words.now bytes.now }
-    ensures { result ≡ find_from 0 (versions_in words.now bytes.now) name.now seq }
-{
-    let i = place(words, bytes, name, seq);
-    if word(words, 0) <= i {
-        return Found::Nothing;
-    }
-    if is_of(words, bytes, i, name) {
-        return Found::At(i);
-    }
-    Found::Nothing
-}
-
 // The place of the value that a read of `name` at `seq` gives: none where it finds a tombstone.
-pub fn find_value(words: &[u64], bytes: &[u8], name: &[u8], seq: u64) -> Found
+pub fn find_value(words: &[u64], bytes: &[u8], name: &[u8], seq: u64) -> Option<usize>
     requires { Valid words.now bytes.now }
     ensures { result ≡ live_found words.now (find_from 0 (versions_in words.now bytes.now) name.now seq) }
 {
-    let found = find(words, bytes, name, seq);
-    match found {
-        Found::At(i) => {
-            if is_tombstone(words, i) {
-                return Found::Nothing;
-            }
-            Found::At(i)
-        }
-        Found::Nothing => Found::Nothing,
-    }
-}
-
-// The highest sequence among the versions of `name`, tombstones included; 0 where it has none.
-pub fn newest(words: &[u64], bytes: &[u8], name: &[u8]) -> u64
-    requires { Valid words.now bytes.now }
-    ensures { result ≡ newest (versions_in words.now bytes.now) name.now }
-{
-    let found = find(words, bytes, name, words[LAST]);
-    match found {
-        Found::At(i) => seq_of(words, i),
-        Found::Nothing => 0,
-    }
+    Store { words, bytes }.find_value(name, seq)
 }
 
 // Has `name` a version above `seq`?
@@ -184,7 +124,7 @@ pub fn moved(words: &[u64], bytes: &[u8], name: &[u8], seq: u64) -> bool
     requires { Valid words.now bytes.now }
     ensures { result ≡ moved seq (versions_in words.now bytes.now) name.now }
 {
-    seq < newest(words, bytes, name)
+    Store { words, bytes }.moved(name, seq)
 }
 
 // An index as a word.

@@ -1,11 +1,6 @@
 -- `base_key::compare` meets its contract. The invariant: the keys compare as what is left of them from i on does, `Alike`. Assumes nothing.
-use Prim.Native.Nat.{◌-◌}
-use lib.ListN.{length}
 use Rattle.base_key.specs.Blocks.{Alike}
 use Rattle.base_key.proofs.compare.Given as goal
 
 abbrev pub invariant-loop-i : goal.invariant-loop-i
 invariant-loop-i l = Alike l.a l.b l.i
-
-abbrev pub decreases-loop-i : goal.decreases-loop-i
-decreases-loop-i l = length l.a - l.i

@@ -1,12 +1,10 @@
--- `base_key::same` meets its contract. Keys of different lengths differ; else by their ends, and then by what stands in front. Assumes nothing.
-use Rattle.base_key.proofs.Keys.{differ_by_length, differ_by_end, same_by_front}
+-- `base_key::same` meets its contract. Keys whose last bytes differ are not one; else `==` says it. Assumes nothing.
+use Rattle.std.proofs.Common.{◌∙◌}
+use Rattle.base_key.proofs.Keys.{equal_bytes, differ_by_last}
 use Rattle.base_key.proofs.same.Goals as goal
 
-pub returns-then-a-b : goal.returns-then-a-b
-returns-then-a-b c = search differ_by_length
+pub returns-then-eq : goal.returns-then-eq
+returns-then-eq c = c.eq-then-eq.ensures ∙ equal_bytes _ _
 
-pub returns-then-same_blocks : goal.returns-then-same_blocks
-returns-then-same_blocks c = search same_by_front
-
-pub returns : goal.returns
-returns c = search differ_by_end
+pub returns-else-eq : goal.returns-else-eq
+returns-else-eq c = differ_by_last _ _ _ _ c.last.ensures.value c.last-2.ensures.value c.eq.ensures c.if-eq.false

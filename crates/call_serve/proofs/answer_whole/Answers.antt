@@ -1,19 +1,9 @@
 -- `call_serve::answer_whole` meets its contract. Assumes nothing.
 use Rattle.call_serve.proofs.ServingLaws.{whole_empty, whole_some}
-use native.Mathlib.Omega.{arith}
 use Rattle.call_serve.proofs.answer_whole.Goals as goal
 
 pub returns-then-count-eq0 : goal.returns-then-count-eq0
 returns-then-count-eq0 c = whole_empty _ _ _ _ _ _ _ _ c.if-count-eq0.true c.requires.ready
-
-pub respond-requires-clause-parts_in : goal.respond-requires-clause-parts_in
-respond-requires-clause-parts_in c = c.requires.parts_in
-
-pub respond-requires-clause-le_count : goal.respond-requires-clause-le_count
-respond-requires-clause-le_count c = omega (arith, c.if-count-eq0.false)
-
-pub respond-requires-clause-ready : goal.respond-requires-clause-ready
-respond-requires-clause-ready c = c.requires.ready
 
 pub returns : goal.returns
 returns c = whole_some _ _ _ _ _ _ _ _ c.if-count-eq0.false c.respond.ensures

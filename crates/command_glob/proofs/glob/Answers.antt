@@ -8,5 +8,5 @@ overflow_sub-name c = search end_room
 pub front_matches-requires : goal.front_matches-requires
 front_matches-requires c = search end_there
 
-pub returns : goal.returns
-returns c = search end_refuses
+pub returns-else-end_matches : goal.returns-else-end_matches
+returns-else-end_matches c = rw c.if-end_matches.false (search end_refuses)

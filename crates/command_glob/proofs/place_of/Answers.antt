@@ -1,8 +1,5 @@
-use Rattle.command_glob.proofs.Globbing.{byte_passed_none, byte_passed_more}
+use Rattle.command_glob.proofs.Globbing.{byte_passed_more}
 use Rattle.command_glob.proofs.place_of.Goals as goal
-
-pub loop-i-init : goal.loop-i-init
-loop-i-init c = search byte_passed_none
 
 pub loop-i-preserved : goal.loop-i-preserved
 loop-i-preserved c = search byte_passed_more

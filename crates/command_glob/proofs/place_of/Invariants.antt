@@ -1,11 +1,6 @@
 -- `command_glob::place_of` meets its contract. The invariant: no tail before `i` begins with the byte, `BytePassed`. Assumes nothing.
-use Prim.Native.Nat.{◌-◌}
-use lib.ListN.{length}
 use Rattle.command_spec.specs.GlobWalk.{BytePassed}
 use Rattle.command_glob.proofs.place_of.Given as goal
 
 abbrev pub invariant-loop-i : goal.invariant-loop-i
 invariant-loop-i l = BytePassed l.name l.byte l.from l.i
-
-abbrev pub decreases-loop-i : goal.decreases-loop-i
-decreases-loop-i l = length l.name - l.i

@@ -5,17 +5,17 @@ use Rattle.command_glob.proofs.token_at.Goals as goal
 pub returns-then-pattern-at : goal.returns-then-pattern-at
 returns-then-pattern-at c = search at_end
 
-pub returns-then-byte-eq42 : goal.returns-then-byte-eq42
-returns-then-byte-eq42 c = search star_at
+pub returns-in-42 : goal.returns-in-42
+returns-in-42 c = search star_at
 
-pub returns-then-byte-eq63 : goal.returns-then-byte-eq63
-returns-then-byte-eq63 c = search one_at
+pub returns-in-63 : goal.returns-in-63
+returns-in-63 c = search one_at
 
-pub returns-then-next-pattern : goal.returns-then-next-pattern
-returns-then-next-pattern c = search escaped_at
+pub returns-in-92 : goal.returns-in-92
+returns-in-92 c = search escaped_at
 
-pub returns-else-next-pattern : goal.returns-else-next-pattern
-returns-else-next-pattern c = search lone_at
+pub returns-in_default : goal.returns-in_default
+returns-in_default c = search (lone_at, literal_at)
 
-pub returns-else-byte-eq92 : goal.returns-else-byte-eq92
-returns-else-byte-eq92 c = search literal_at
+pub returns-in_default-2 : goal.returns-in_default-2
+returns-in_default-2 c = search (lone_at, literal_at)

@@ -4,14 +4,14 @@ use Rattle.command_meaning.proofs.NameLaws.{right_named, plain_named, right_coun
 use borrow.Author.Rules.{rules}
 use Rattle.command_meaning.proofs.executed_of.Goals as goal
 
+pub returns-then-not-count_right : goal.returns-then-not-count_right
+returns-then-not-count_right c = search (wrong_count, arguments_count)
+
 pub returns-then-with_options : goal.returns-then-with_options
 returns-then-with_options c = search (with_options_lem, arguments_count)
 
 pub named-requires : goal.named-requires
 named-requires c = search (right_named, plain_named, rules)
 
-pub returns-then-count_right : goal.returns-then-count_right
-returns-then-count_right c = search (right_count, arguments_count)
-
 pub returns : goal.returns
-returns c = search (wrong_count, arguments_count)
+returns c = search (right_count, arguments_count)

@@ -7,6 +7,3 @@ loop-at-init c = (search rules, (search rules, answers_none c.requires.held_valu
 
 pub loop-at-preserved : goal.loop-at-preserved
 loop-at-preserved c = (search rules, (search rules, answers_on (answers_more c.loop-at.invariant.1.1 c.answer_line-filled.ensures.line_answered) (output_on (output_room _ 131072 _ 64 c.behind-next.ensures.filled_value) c.next_line-at-in-loop-at.ensures.output)))
-
-pub returns-clause-all_answered : goal.returns-clause-all_answered
-returns-clause-all_answered c = c.loop-at.invariant.1.1

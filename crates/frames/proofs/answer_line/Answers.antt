@@ -1,7 +1,7 @@
 -- `frames::answer_line` meets its contract. Assumes nothing.
 use native.Mathlib.Omega.{arith}
 use Rattle.frames_console.proofs.LineAnswered.{line_answered, line_served}
-use Rattle.frames.proofs.TurnLaws.{serve_bounds, answered_bound}
+use Rattle.frames.proofs.TurnLaws.{serve_bounds}
 use Rattle.frames.proofs.answer_line.Goals as goal
 
 pub serve_turns-at-requires-clause-session_bound : goal.serve_turns-at-requires-clause-session_bound
@@ -10,29 +10,11 @@ serve_turns-at-requires-clause-session_bound c = (serve_bounds c.begin.ensures c
 pub serve_turns-at-requires-clause-to_bound : goal.serve_turns-at-requires-clause-to_bound
 serve_turns-at-requires-clause-to_bound c = (serve_bounds c.begin.ensures c.in-Serve.is).small
 
-pub serve_turns-at-requires-clause-filled_bound : goal.serve_turns-at-requires-clause-filled_bound
-serve_turns-at-requires-clause-filled_bound c = omega (arith, (serve_bounds c.begin.ensures c.in-Serve.is).filled)
-
-pub serve_turns-at-requires-clause-fit : goal.serve_turns-at-requires-clause-fit
-serve_turns-at-requires-clause-fit c = c.requires.fit
-
 pub end-requires-clause-rest_at : goal.end-requires-clause-rest_at
 end-requires-clause-rest_at c = record { session = omega (arith, (serve_bounds c.begin.ensures c.in-Serve.is).below); order = c.serve_turns-at.ensures.served.from; size = (serve_bounds c.begin.ensures c.in-Serve.is).small }
 
-pub end-requires-clause-mark_fits : goal.end-requires-clause-mark_fits
-end-requires-clause-mark_fits c = c.serve_turns-at.ensures.served.mark
-
-pub returns-in-Answered-clause-fit_2 : goal.returns-in-Answered-clause-fit_2
-returns-in-Answered-clause-fit_2 c = c.requires.fit
-
-pub returns-in-Answered-clause-upper_bound : goal.returns-in-Answered-clause-upper_bound
-returns-in-Answered-clause-upper_bound c = omega (arith, answered_bound c.begin.ensures c.in-Answered.is)
-
 pub returns-in-Answered-clause-line_answered : goal.returns-in-Answered-clause-line_answered
 returns-in-Answered-clause-line_answered c = line_answered _ c.begin.ensures c.in-Answered.is
-
-pub returns-in-Serve-clause-fit_2 : goal.returns-in-Serve-clause-fit_2
-returns-in-Serve-clause-fit_2 c = c.serve_turns-at.ensures.fit_2
 
 pub returns-in-Serve-clause-line_answered : goal.returns-in-Serve-clause-line_answered
 returns-in-Serve-clause-line_answered c = line_served c.begin.ensures c.in-Serve.is c.serve_turns-at.ensures.turns_served c.end.ensures

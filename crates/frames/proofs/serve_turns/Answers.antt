@@ -1,25 +1,16 @@
 use Rattle.frames_console.proofs.TurnLaws.{turns_over}
-use Rattle.frames.proofs.TurnLaws.{loop_start, turn_less, turn_again, served_bounds}
+use Rattle.frames.proofs.TurnLaws.{loop_start, turn_less, turn_again}
 use borrow.Author.Rules.{rules}
 use Rattle.frames.proofs.serve_turns.Goals as goal
 
 pub loop-at-init : goal.loop-at-init
 loop-at-init c = loop_start _ _ (search rules) (search rules) (search rules) (search rules)
 
-pub serve_some-at-requires-clause-fit : goal.serve_some-at-requires-clause-fit
-serve_some-at-requires-clause-fit c = c.loop-at.invariant.fit
-
 pub loop-at-smaller : goal.loop-at-smaller
 loop-at-smaller c = turn_less c.args.held.now c.loop-at.invariant c.requires.held_len c.serve_some-at.ensures.some_served c.loop-at-test.true
 
 pub loop-at-preserved : goal.loop-at-preserved
 loop-at-preserved c = turn_again c.args.held.now c.loop-at.invariant c.requires.held_len c.serve_some-at.ensures.some_served c.loop-at-test.true c.make_room.ensures.value (search rules) c.serve_some-at.ensures.fit_2
-
-pub returns-clause-fit_2 : goal.returns-clause-fit_2
-returns-clause-fit_2 c = c.loop-at.invariant.fit
-
-pub returns-clause-served : goal.returns-clause-served
-returns-clause-served c = served_bounds c.loop-at.invariant.bounds c.make_room-2.ensures.need_bound_2
 
 pub returns-clause-turns_served : goal.returns-clause-turns_served
 returns-clause-turns_served c = turns_over 131072 64 c.loop-at.invariant.turns c.loop-at-test.false c.make_room-2.ensures.value

@@ -1,13 +1,16 @@
--- `group_judge::has_room` meets its contract. By the rows, then by the bytes. Assumes nothing.
-use Rattle.store_memtable.proofs.Opening.{room_versions}
-use Rattle.group_spec.proofs.Committed.{room_left, room_bytes_out}
+-- `group_judge::has_room` meets its contract. By the versions and then by the bytes that are left. Assumes nothing.
+use Rattle.std.proofs.Common.{rules}
+use Rattle.store_memtable.specs.Rows.{room_in, bytes_left}
 use Rattle.group_judge.proofs.has_room.Goals as goal
 
-pub returns-then-word-count : goal.returns-then-word-count
-returns-then-word-count c = search room_versions
+pub returns-in-Some : goal.returns-in-Some
+unfolding room_in bytes_left
+returns-in-Some c = search rules
 
-pub returns-in-Rest : goal.returns-in-Rest
-returns-in-Rest c = search room_left
+pub returns-in_default : goal.returns-in_default
+unfolding room_in bytes_left
+returns-in_default c = search rules
 
-pub returns-in-Short : goal.returns-in-Short
-returns-in-Short c = search room_bytes_out
+pub returns-else-count-word : goal.returns-else-count-word
+unfolding room_in bytes_left
+returns-else-count-word c = search rules

@@ -1,19 +1,21 @@
--- `group_judge::settle_next` meets its contract. The steps' own words together. Assumes nothing.
-use Rattle.group_spec.proofs.Settled.{member_rows, step_byte, step_words, step_bytes}
-use Rattle.group_spec.specs.Members.{pending_of}
+-- `group_judge::settle_next` meets its contract. A member that is not taken leaves all. Assumes nothing.
+use Rattle.std.proofs.Common.{rules}
+use Rattle.group_spec.specs.Settling.{step_verdict}
+use Rattle.group_spec.proofs.Settled.{member_rows, stays_words, stays_bytes}
 use Rattle.group_judge.proofs.settle_next.Goals as goal
+use Rattle.group_judge.proofs.settle_next.Goals.{then-taken_at, else-taken_at}
 
 pub room_after-after-requires : goal.room_after-after-requires
 room_after-after-requires c = search member_rows
 
-pub returns-clause-value : goal.returns-clause-value
-returns-clause-value c = c.room_after-after.ensures
-
 pub returns-clause-verdicts_after : goal.returns-clause-verdicts_after
-returns-clause-verdicts_after c = step_byte c.args.began c.args.i c.room_after-after.result c.taken_at-taken.ensures (pending_of c.args.parts.now c.args.«data».now c.args.member) c.args.words.now c.args.bytes.now c.settle_if-verdict.ensures.value c.args.verdicts.now c.verdict_byte.ensures
+unfolding step_verdict
+returns-clause-verdicts_after c = elim c.if-taken_at.branch [ then-taken_at w ↦ search rules | else-taken_at w ↦ search rules ]
 
 pub returns-clause-words_after : goal.returns-clause-words_after
-returns-clause-words_after c = step_words c.args.began c.args.i c.room_after-after.result c.taken_at-taken.ensures (pending_of c.args.parts.now c.args.«data».now c.args.member) c.args.words.now c.args.bytes.now c.settle_if-verdict.ensures.value c.settle_if-verdict.ensures.words_after
+unfolding step_verdict
+returns-clause-words_after c = elim c.if-taken_at.branch [ then-taken_at w ↦ search rules | else-taken_at w ↦ search (rules, stays_words) ]
 
 pub returns-clause-bytes_after : goal.returns-clause-bytes_after
-returns-clause-bytes_after c = step_bytes c.args.began c.args.i c.room_after-after.result c.taken_at-taken.ensures (pending_of c.args.parts.now c.args.«data».now c.args.member) c.args.words.now c.args.bytes.now c.settle_if-verdict.ensures.value c.settle_if-verdict.ensures.bytes_after
+unfolding step_verdict
+returns-clause-bytes_after c = elim c.if-taken_at.branch [ then-taken_at w ↦ search rules | else-taken_at w ↦ search (rules, stays_bytes) ]

@@ -1,9 +1,6 @@
 -- `group_merge::merge_write` meets its contract. The write that the words say. Assumes nothing.
-use Rattle.group_spec.proofs.PartLaws.{value_given, given_mergeable, given_front, given_rows, given_data}
+use Rattle.group_spec.proofs.PartLaws.{given_mergeable, given_front, given_rows, given_data}
 use Rattle.group_merge.proofs.merge_write.Goals as goal
-
-pub value_part-value-requires : goal.value_part-value-requires
-value_part-value-requires c = search value_given
 
 pub merge_one-requires : goal.merge_one-requires
 merge_one-requires c = search given_mergeable

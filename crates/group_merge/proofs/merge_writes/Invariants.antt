@@ -1,9 +1,6 @@
--- `group_merge::merge_writes` meets its contract. The invariant: the first j writes are left, `Turning`. The measure is j. Assumes nothing.
+-- `group_merge::merge_writes` meets its contract. The invariant: the first j writes are left, `Turning`. Assumes nothing.
 use Rattle.group_spec.proofs.AscendingLaws.{Turning}
 use Rattle.group_merge.proofs.merge_writes.Given as goal
 
 abbrev pub invariant-loop-j : goal.invariant-loop-j
 invariant-loop-j l = Turning l.parts l.«data» l.first l.count l.initial.words l.initial.bytes l.words l.bytes l.left l.j
-
-abbrev pub decreases-loop-j : goal.decreases-loop-j
-decreases-loop-j l = l.j

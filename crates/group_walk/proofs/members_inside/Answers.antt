@@ -1,20 +1,12 @@
-use Rattle.std.proofs.Common.{◌≡◌, length, arith, add-one}
-use Rattle.group_spec.proofs.Walking.{inside_first, inside_more, inside_end}
+-- `group_walk::members_inside` meets its contract. Assumes nothing.
+use Rattle.std.proofs.Common.{rules, ◌∙◌}
+use Rattle.std.proofs.lemmas.Iterator.{YieldsList-from_slice}
+use Rattle.std.proofs.lemmas.Iterator.Search.{all_from_yields_List}
+use Rattle.group_spec.specs.Members.{member_inside}
+use Rattle.group_spec.proofs.Walking.{inside_listed}
 use Rattle.group_walk.proofs.members_inside.Goals as goal
-
-pub loop-i-init : goal.loop-i-init
-loop-i-init c = record {
-  within = omega arith;
-  so_far = inside_first c.args.parts.now c.args.«data».now c.args.members.now;
-}
-
-pub loop-i-preserved : goal.loop-i-preserved
-loop-i-preserved c = record {
-  within = omega arith;
-  so_far = rw add-one (inside_more c.args.parts.now c.args.«data».now c.args.members.now _ c.loop-i.i c.loop-i.all c.loop-i-test.true c.inside_next-all.ensures c.loop-i.invariant.so_far);
-}
 
 pub returns : goal.returns
 returns c =
-    let last : c.loop-i.i ≡ length c.args.members.now = omega arith in
-    inside_end c.args.parts.now c.args.«data».now c.args.members.now c.loop-i.all (rw last at c.loop-i.invariant.so_far)
+    all_from_yields_List (member_inside c.args.parts.now c.args.«data».now) _ _ _ c.all.ensures.ran (YieldsList-from_slice c.args.members.now cc) (λ x b q k. search rules)
+    ∙ inside_listed _ _ _

@@ -1,9 +1,6 @@
 -- `resp_bulk::read_argument` meets its contract. By the line. Assumes nothing.
-use Rattle.resp_bulk.proofs.Arguments.{argument_unread, argument_long, argument_line_lem, argument_sized}
+use Rattle.resp_bulk.proofs.Arguments.{argument_unread, argument_long, argument_sized}
 use Rattle.resp_bulk.proofs.read_argument.Goals as goal
-
-pub read_sized-requires : goal.read_sized-requires
-read_sized-requires c = search argument_line_lem
 
 pub returns-in-Text : goal.returns-in-Text
 returns-in-Text c = search argument_sized

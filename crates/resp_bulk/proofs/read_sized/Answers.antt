@@ -1,18 +1,15 @@
 -- `resp_bulk::read_sized` meets its contract. One law for each way out. Assumes nothing.
-use Rattle.resp_bulk.proofs.Arguments.{sized_empty, sized_no_dollar, sized_wrong, sized_part, body_inside}
+use Rattle.resp_bulk.proofs.Arguments.{sized_empty, sized_no_dollar, sized_wrong, sized_part}
 use Rattle.resp_bulk.proofs.read_sized.Goals as goal
 
-pub returns-then-len-eq0 : goal.returns-then-len-eq0
-returns-then-len-eq0 c = search sized_empty
+pub returns-in-empty : goal.returns-in-empty
+returns-in-empty c = search sized_empty
 
-pub returns-then-input-at-ne36 : goal.returns-then-input-at-ne36
-returns-then-input-at-ne36 c = search sized_no_dollar
+pub returns-in_default : goal.returns-in_default
+returns-in_default c = search sized_no_dollar
 
-pub read_body-requires : goal.read_body-requires
-read_body-requires c = search body_inside
+pub returns-in-Ok : goal.returns-in-Ok
+returns-in-Ok c = search sized_part
 
-pub returns-in-Counts : goal.returns-in-Counts
-returns-in-Counts c = search sized_part
-
-pub returns-in-Wrong : goal.returns-in-Wrong
-returns-in-Wrong c = search sized_wrong
+pub returns-in-Err : goal.returns-in-Err
+returns-in-Err c = search sized_wrong

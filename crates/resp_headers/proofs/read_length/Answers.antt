@@ -8,5 +8,5 @@ returns-then-n-limit c = search length_counts
 pub returns-else-n-limit : goal.returns-else-n-limit
 returns-else-n-limit c = search length_over
 
-pub returns-in-NoLength : goal.returns-in-NoLength
-returns-in-NoLength c = search length_none
+pub returns-in-None : goal.returns-in-None
+returns-in-None c = search length_none

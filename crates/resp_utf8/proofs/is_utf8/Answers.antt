@@ -1,29 +1,26 @@
 use native.Mathlib.Omega.{arith}
 use Rattle.resp_utf8.proofs.Pieces.{Sized, checked_none, checked_all, checked_more, checked_ill, rest_not_empty, whole_sized}
-use Rattle.resp_utf8.proofs.is_utf8.Goals.{In-Whole}
+use Rattle.resp_utf8.proofs.is_utf8.Goals.{In-Ok}
 use Rattle.resp_utf8.proofs.is_utf8.Goals as goal
 
 -- the character's bytes are in the text
-whole : (c : In-Whole) → Sized c.args.text.now c.loop-at.at c.in-Whole.n
+whole : (c : In-Ok) → Sized c.args.text.now c.loop-at.at c.in-Ok.n
 whole c = search whole_sized
 
 pub loop-at-init : goal.loop-at-init
 loop-at-init c = search checked_none
 
-pub piece_at-requires : goal.piece_at-requires
-piece_at-requires c = search rest_not_empty
-
 pub overflow_add-at : goal.overflow_add-at
-overflow_add-at c = omega (arith, whole (goal.at.overflow_add-at c).In-Whole)
+overflow_add-at c = omega (arith, whole (goal.at.overflow_add-at c).In-Ok)
 
 pub loop-at-smaller : goal.loop-at-smaller
-loop-at-smaller c = omega (arith, whole (goal.at.loop-at-smaller c).In-Whole)
+loop-at-smaller c = omega (arith, whole (goal.at.loop-at-smaller c).In-Ok)
 
 pub loop-at-preserved : goal.loop-at-preserved
 loop-at-preserved c = search checked_more
 
-pub returns-in-Broken : goal.returns-in-Broken
-returns-in-Broken c = search checked_ill
+pub returns-in-Err : goal.returns-in-Err
+returns-in-Err c = search checked_ill
 
 pub returns : goal.returns
 returns c = search checked_all

@@ -5,5 +5,5 @@ use Rattle.session_flags.proofs.mark_failed.Goals as goal
 pub returns-then-words-eq0 : goal.returns-then-words-eq0
 returns-then-words-eq0 c = search mark_new
 
-pub returns : goal.returns
-returns c = search mark_old
+pub returns-else-words-eq0 : goal.returns-else-words-eq0
+returns-else-words-eq0 c = search mark_old

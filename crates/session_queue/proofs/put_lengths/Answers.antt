@@ -1,4 +1,4 @@
-use Rattle.session_memory.proofs.Queueing.{listing_none, listing_more, listed}
+use Rattle.session_memory.proofs.Queueing.{listing_none, listing_more}
 use Rattle.session_queue.proofs.put_lengths.Goals as goal
 
 pub loop-i-init : goal.loop-i-init
@@ -6,6 +6,3 @@ loop-i-init c = search listing_none
 
 pub loop-i-preserved : goal.loop-i-preserved
 loop-i-preserved c = search listing_more
-
-pub returns : goal.returns
-returns c = search listed

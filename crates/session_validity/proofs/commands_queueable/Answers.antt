@@ -8,23 +8,20 @@ loop-i-init c = search naming_none
 pub command_queueable-requires : goal.command_queueable-requires
 command_queueable-requires c = name_room c.requires c.loop-i.invariant c.loop-i-test.true c.word-size.ensures
 
-pub overflow_add-first : goal.overflow_add-first
-overflow_add-first c = omega (arith, lengths_room c.requires c.loop-i.invariant c.loop-i-test.true)
-
 pub sum_within-start-requires : goal.sum_within-start-requires
 sum_within-start-requires c = omega (arith, c.word-size.ensures, lengths_room c.requires c.loop-i.invariant c.loop-i-test.true)
 
 pub overflow_add-start : goal.overflow_add-start
 overflow_add-start c = omega (arith, places_fit c.requires c.loop-i.invariant c.loop-i-test.true c.word-size.ensures c.command_queueable.ensures c.sum_within-start.ensures)
 
-pub overflow_add-first-then-command_queueable : goal.overflow_add-first-then-command_queueable
-overflow_add-first-then-command_queueable c = omega (arith, places_fit c.requires c.loop-i.invariant c.loop-i-test.true c.word-size.ensures c.command_queueable.ensures c.sum_within-start.ensures)
+pub overflow_add-first-in-loop-i : goal.overflow_add-first-in-loop-i
+overflow_add-first-in-loop-i c = omega (arith, places_fit c.requires c.loop-i.invariant c.loop-i-test.true c.word-size.ensures c.command_queueable.ensures c.sum_within-start.ensures)
 
 pub loop-i-preserved : goal.loop-i-preserved
 loop-i-preserved c = search naming_more
 
-pub returns-else-command_queueable : goal.returns-else-command_queueable
-returns-else-command_queueable c = search not_queueable_lem
+pub returns-then-not-command_queueable : goal.returns-then-not-command_queueable
+returns-then-not-command_queueable c = search not_queueable_lem
 
 pub returns : goal.returns
 returns c = search all_queueable_lem

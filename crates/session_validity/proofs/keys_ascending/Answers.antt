@@ -17,8 +17,8 @@ below-requires c = omega (arith, next_room c.requires c.loop-i.invariant c.loop-
 pub loop-i-preserved : goal.loop-i-preserved
 loop-i-preserved c = search rising_more
 
-pub returns-else-below : goal.returns-else-below
-returns-else-below c = search not_rising
+pub returns-then-not-below : goal.returns-then-not-below
+returns-then-not-below c = search not_rising
 
 pub returns : goal.returns
 returns c = search risen

@@ -5,5 +5,5 @@ use Rattle.session_validity.proofs.session_ok.Goals as goal
 pub returns-then-watch_ok : goal.returns-then-watch_ok
 returns-then-watch_ok c = search queue_test
 
-pub returns : goal.returns
-returns c = search watch_wrong
+pub returns-else-watch_ok : goal.returns-else-watch_ok
+returns-else-watch_ok c = search watch_wrong

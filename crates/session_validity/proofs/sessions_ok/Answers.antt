@@ -1,4 +1,4 @@
-use Rattle.session_validity.proofs.SessionTests.{short_words, short_bytes, checked_none, one_session, checked_more, session_wrong, checked_all}
+use Rattle.session_validity.proofs.SessionTests.{short_words, short_bytes, checked_none, checked_more, session_wrong, checked_all}
 use Rattle.session_validity.proofs.sessions_ok.Goals as goal
 
 pub returns-then-words : goal.returns-then-words
@@ -10,14 +10,11 @@ returns-then-bytes c = search short_bytes
 pub loop-i-init : goal.loop-i-init
 loop-i-init c = search checked_none
 
-pub session_ok-requires : goal.session_ok-requires
-session_ok-requires c = search one_session
-
 pub loop-i-preserved : goal.loop-i-preserved
 loop-i-preserved c = search checked_more
 
-pub returns-else-session_ok : goal.returns-else-session_ok
-returns-else-session_ok c = search session_wrong
+pub returns-then-not-session_ok : goal.returns-then-not-session_ok
+returns-then-not-session_ok c = search session_wrong
 
 pub returns : goal.returns
 returns c = search checked_all

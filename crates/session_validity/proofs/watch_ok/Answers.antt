@@ -14,5 +14,5 @@ keys_ascending-requires c = search keys_in_lem
 pub returns-then-keys_ascending : goal.returns-then-keys_ascending
 returns-then-keys_ascending c = search sequences_test
 
-pub returns : goal.returns
-returns c = search not_ascending
+pub returns-else-keys_ascending : goal.returns-else-keys_ascending
+returns-else-keys_ascending c = search not_ascending

@@ -8,12 +8,6 @@ loop-i-init c = search spotting_none
 pub overflow_add-end : goal.overflow_add-end
 overflow_add-end c = omega (arith, spot_room c.loop-i.invariant c.requires c.loop-i-test.true)
 
-pub slice_bounds-compare-count : goal.slice_bounds-compare-count
-slice_bounds-compare-count c = omega arith
-
-pub slice_bounds-compare-start : goal.slice_bounds-compare-start
-slice_bounds-compare-start c = omega arith
-
 pub slice_bounds-compare-end : goal.slice_bounds-compare-end
 slice_bounds-compare-end c = omega (arith, spot_room c.loop-i.invariant c.requires c.loop-i-test.true)
 

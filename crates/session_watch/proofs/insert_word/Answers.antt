@@ -1,12 +1,6 @@
-use Rattle.base_key.proofs.Writes.{moving_none, moving_more}
+-- `session_watch::insert_word` meets its contract. The move opens a gap, and the word fills it. Assumes nothing.
 use Rattle.session_memory.proofs.Watching.{word_inserted}
 use Rattle.session_watch.proofs.insert_word.Goals as goal
 
-pub loop-j-init : goal.loop-j-init
-loop-j-init c = search moving_none
-
-pub loop-j-preserved : goal.loop-j-preserved
-loop-j-preserved c = search moving_more
-
 pub returns : goal.returns
-returns c = search word_inserted
+returns c = word_inserted c.args.lens.now c.args.at c.args.count c.args.value c.copy_within.ensures.after c.requires.0 c.requires.1

@@ -1,11 +1,7 @@
 -- `session_watch::watched_moved` meets its contract. Assumes nothing.
 use Rattle.session_watch.proofs.WatchedKeys.{Passing}
 use Rattle.store_memtable.specs.Rows.{versions_in}
-use Prim.Native.Nat.{◌-◌}
 use Rattle.session_watch.proofs.watched_moved.Given as goal
 
 abbrev pub invariant-loop-i : goal.invariant-loop-i
 invariant-loop-i l = Passing (versions_in l.words l.bytes) l.session_words l.session_bytes l.count l.start l.i
-
-abbrev pub decreases-loop-i : goal.decreases-loop-i
-decreases-loop-i l = l.count - l.i

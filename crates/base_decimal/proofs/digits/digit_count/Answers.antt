@@ -1,18 +1,9 @@
-use Rattle.base_number.proofs.Decimals.{counting_none, counting_more, counting_all}
-use native.Mathlib.Omega.{arith}
+-- `base_decimal::digits::digit_count` meets its contract. Assumes nothing.
+use Rattle.std.proofs.Common.{◌∙◌, ap, ◌+◌}
+use Rattle.base_number.proofs.Decimals.{digits_counted}
 use Rattle.base_decimal.proofs.digits.digit_count.Goals as goal
 
-pub loop-rest-init : goal.loop-rest-init
-loop-rest-init c = counting_none _
-
-pub overflow_add-count : goal.overflow_add-count
-overflow_add-count c = omega arith
-
-pub loop-rest-smaller : goal.loop-rest-smaller
-loop-rest-smaller c = omega arith
-
-pub loop-rest-preserved : goal.loop-rest-preserved
-loop-rest-preserved c = search counting_more
-
 pub returns : goal.returns
-returns c = search counting_all
+returns c =
+    let log = c.checked_ilog10.ensures in
+    ap (λ n. n + 1) (c.from.ensures ∙ c.unwrap_or.ensures) ∙ digits_counted _ _ log.none log.power_le log.next_power_gt

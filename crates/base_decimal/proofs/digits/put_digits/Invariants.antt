@@ -4,6 +4,3 @@ use Rattle.base_decimal.proofs.digits.put_digits.Given as goal
 
 abbrev pub invariant-loop-i : goal.invariant-loop-i
 invariant-loop-i l = Filled l.n l.count l.initial.out l.rest l.i l.out
-
-abbrev pub decreases-loop-i : goal.decreases-loop-i
-decreases-loop-i l = l.i

@@ -4,8 +4,8 @@ use Rattle.command_direct.proofs.KindRuns.{pairs_in, pairs_some, tombstones_some
 use borrow.Author.Rules.{rules}
 use Rattle.command_direct.proofs.kinds.run_kind.Goals as goal
 
-pub overflow_sub-count : goal.overflow_sub-count
-overflow_sub-count c = search pairs_some
+pub overflow_sub-request : goal.overflow_sub-request
+overflow_sub-request c = search pairs_some
 
 pub run_pairs-requires-clause-parts_in : goal.run_pairs-requires-clause-parts_in
 run_pairs-requires-clause-parts_in c = search pairs_in
@@ -13,8 +13,8 @@ run_pairs-requires-clause-parts_in c = search pairs_in
 pub run_tombstones-requires-clause-le_count : goal.run_tombstones-requires-clause-le_count
 run_tombstones-requires-clause-le_count c = search tombstones_some
 
-pub argument-requires-clause-k_lt_count : goal.argument-requires-clause-k_lt_count
-argument-requires-clause-k_lt_count c = search counter_counted
+pub argument-requires : goal.argument-requires
+argument-requires c = search counter_counted
 
 pub answer_read-requires-clause-read_bound : goal.answer_read-requires-clause-read_bound
 answer_read-requires-clause-read_bound c = search read_counted

@@ -4,7 +4,7 @@ use borrow.Author.Rules.{rules}
 use Rattle.command_direct.proofs.replies.put_live.Goals as goal
 
 pub put_count-requires : goal.put_count-requires
-put_count-requires c = live_fits _ _ _ _ _ c.count_live-live.ensures c.requires.parts_in (search rules)
+put_count-requires c = live_fits _ _ _ _ _ c.count_live-live.ensures c.args.request.now.parts_in (search rules)
 
 pub returns : goal.returns
 returns c = search live_put

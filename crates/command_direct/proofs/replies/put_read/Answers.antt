@@ -3,17 +3,17 @@ use Rattle.command_meaning.proofs.KindLaws.{least_one, least_value, least_echo}
 use Rattle.command_direct.proofs.Answering.{read_echo, read_live, read_says, read_value, read_values}
 use Rattle.command_direct.proofs.replies.put_read.Goals as goal
 
-pub argument-requires-clause-k_lt_count : goal.argument-requires-clause-k_lt_count
-argument-requires-clause-k_lt_count c = search least_value
+pub argument-requires : goal.argument-requires
+argument-requires c = search least_value
 
-pub put_live-requires-clause-le_count : goal.put_live-requires-clause-le_count
-put_live-requires-clause-le_count c = search least_one
+pub put_live-requires : goal.put_live-requires
+put_live-requires c = search least_one
 
 pub put_values-requires-clause-le_count : goal.put_values-requires-clause-le_count
 put_values-requires-clause-le_count c = search least_one
 
-pub argument-text-requires-clause-k_lt_count : goal.argument-text-requires-clause-k_lt_count
-argument-text-requires-clause-k_lt_count c = search least_echo
+pub argument-text-requires : goal.argument-text-requires
+argument-text-requires c = search least_echo
 
 pub returns-in-Value : goal.returns-in-Value
 returns-in-Value c = search read_value

@@ -11,10 +11,10 @@ pub returns-in_default : goal.returns-in_default
 returns-in_default c = number_fits (to_z-of_z c.ranges.number) c.ranges.number.sfits refl c.put_decimal.ensures (search rules)
 
 pub slice_bounds-text-end : goal.slice_bounds-text-end
-slice_bounds-text-end c = omega (arith, number_within (to_z-of_z c.ranges.number) c.ranges.number.sfits refl c.put_decimal.ensures c.in-Wrote.is)
+slice_bounds-text-end c = omega (arith, number_within (to_z-of_z c.ranges.number) c.ranges.number.sfits refl c.put_decimal.ensures c.in-Some.is)
 
 pub slice_bounds-run_text-end : goal.slice_bounds-run_text-end
-slice_bounds-run_text-end c = sym (length-take-le _ _ (number_within (to_z-of_z c.ranges.number) c.ranges.number.sfits refl c.put_decimal.ensures c.in-Wrote.is))
+slice_bounds-run_text-end c = sym (length-take-le _ _ (number_within (to_z-of_z c.ranges.number) c.ranges.number.sfits refl c.put_decimal.ensures c.in-Some.is))
 
 pub returns : goal.returns
-returns c = number_runs _ _ _ (number_text_lem (to_z-of_z c.ranges.number) c.ranges.number.sfits refl c.put_decimal.ensures c.in-Wrote.is) c.run_text.ensures
+returns c = number_runs _ _ _ (number_text_lem (to_z-of_z c.ranges.number) c.ranges.number.sfits refl c.put_decimal.ensures c.in-Some.is) c.run_text.ensures

@@ -8,5 +8,5 @@ commit_pairs-requires-clause-room_for_all c = admitted_room c.admit_pairs-answer
 pub returns-then-answer-eq0 : goal.returns-then-answer-eq0
 returns-then-answer-eq0 c = search admitted_written
 
-pub returns : goal.returns
-returns c = search admitted_refused
+pub returns-else-answer-eq0 : goal.returns-else-answer-eq0
+returns-else-answer-eq0 c = search admitted_refused

@@ -8,5 +8,5 @@ commit_one-requires-clause-room_for_one c = text_room _ _ _ _ _ c.admit_text-ans
 pub returns-then-answer-eq0 : goal.returns-then-answer-eq0
 returns-then-answer-eq0 c = search text_written
 
-pub returns : goal.returns
-returns c = search text_refused
+pub returns-else-answer-eq0 : goal.returns-else-answer-eq0
+returns-else-answer-eq0 c = search text_refused

@@ -8,5 +8,5 @@ commit_tombstones-requires-clause-room_for_all c = deletion_room _ _ _ _ c.admit
 pub returns-then-answer-eq0 : goal.returns-then-answer-eq0
 returns-then-answer-eq0 c = search deletion_written
 
-pub returns : goal.returns
-returns c = search deletion_refused
+pub returns-else-answer-eq0 : goal.returns-else-answer-eq0
+returns-else-answer-eq0 c = search deletion_refused

@@ -5,7 +5,7 @@ use Prim.Native.Nat.{◌-◌}
 use Rattle.command_listing.proofs.keys.put_matches.Given as goal
 
 abbrev pub invariant-loop-left : goal.invariant-loop-left
-invariant-loop-left l = Writing l.words l.bytes l.pattern l.from l.count l.i l.left l.initial.put l.initial.out l.put l.out
+invariant-loop-left l = Writing l.store.words.now l.store.bytes.now l.pattern l.from l.count l.i l.left l.initial.put l.initial.out l.put l.out
 
 abbrev pub decreases-loop-left : goal.decreases-loop-left
-decreases-loop-left l = count_word l.words - l.i
+decreases-loop-left l = count_word l.store.words.now - l.i

@@ -1,6 +1,6 @@
 -- `command_meaning::kinds::kind_of` meets its contract. One law for each arm. Assumes nothing.
 use Rattle.command_spec.proofs.PlaceLaws.{arguments_count}
-use Rattle.command_meaning.proofs.KindLaws.{kind_same, kind_for, incrby_count, get_does, set_does, del_does, exists_does, mget_does, mset_does, incr_does, decr_does, echo_does}
+use Rattle.command_meaning.proofs.KindLaws.{kind_for, incrby_count, get_does, set_does, del_does, exists_does, mget_does, mset_does, incr_does, decr_does, echo_does}
 use borrow.Author.Rules.{rules}
 use Rattle.command_meaning.proofs.kinds.kind_of.Goals as goal
 
@@ -27,9 +27,6 @@ returns-in-Mset c = search mset_does
 
 pub returns-in-Incr : goal.returns-in-Incr
 returns-in-Incr c = search incr_does
-
-pub returns-in-Incrby : goal.returns-in-Incrby
-returns-in-Incrby c = search kind_same
 
 pub returns-in-Decr : goal.returns-in-Decr
 returns-in-Decr c = search decr_does

@@ -5,5 +5,5 @@ use Rattle.command_meaning.proofs.kinds.ping.Goals as goal
 pub returns-then-count-eq1 : goal.returns-then-count-eq1
 returns-then-count-eq1 c = search ping_alone
 
-pub returns : goal.returns
-returns c = ping_echo c.requires c.if-count-eq1.false
+pub returns-else-count-eq1 : goal.returns-else-count-eq1
+returns-else-count-eq1 c = ping_echo c.requires c.if-count-eq1.false

@@ -1,4 +1,4 @@
-use Rattle.command_room.proofs.Writes.{setting_none, setting_valid, setting_key, setting_value, setting_room, setting_more, set_words, set_bytes}
+use Rattle.command_room.proofs.Writes.{setting_none, setting_key, setting_value, setting_room, setting_more, set_words, set_bytes}
 use Rattle.command_room.proofs.commit.commit_pairs.Goals as goal
 
 pub loop-j-init : goal.loop-j-init
@@ -9,9 +9,6 @@ commit_pair-requires-clause-key_in c = search setting_key
 
 pub commit_pair-requires-clause-key_in_2 : goal.commit_pair-requires-clause-key_in_2
 commit_pair-requires-clause-key_in_2 c = search setting_value
-
-pub commit_pair-requires-clause-valid : goal.commit_pair-requires-clause-valid
-commit_pair-requires-clause-valid c = search setting_valid
 
 pub commit_pair-requires-clause-room_for_all : goal.commit_pair-requires-clause-room_for_all
 commit_pair-requires-clause-room_for_all c = search setting_room

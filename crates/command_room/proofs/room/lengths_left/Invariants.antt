@@ -1,10 +1,6 @@
--- src/room.rt:26:5
 use Prim.Native.Nat.{◌-◌}
 use Rattle.command_room.proofs.Writes.{Lasting}
 use Rattle.command_room.proofs.room.lengths_left.Given as goal
 
 abbrev pub invariant-loop-i : goal.invariant-loop-i
 invariant-loop-i l = Lasting l.places l.from l.to l.left l.rest l.i
-
-abbrev pub decreases-loop-i : goal.decreases-loop-i
-decreases-loop-i l = l.to - l.i

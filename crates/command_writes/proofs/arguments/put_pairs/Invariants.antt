@@ -1,10 +1,6 @@
--- `command_writes::arguments::put_pairs` meets its contract. The invariant: the pairs before argument i have been set, `Pairs`. Assumes nothing.
-use Prim.Native.Nat.{◌-◌}
+-- `command_writes::arguments::put_pairs` meets its contract. The invariant: the first j pairs have been set, `Pairs`. Assumes nothing.
 use Rattle.command_writes.proofs.ArgumentLaws.{Pairs}
 use Rattle.command_writes.proofs.arguments.put_pairs.Given as goal
 
-abbrev pub invariant-loop-i : goal.invariant-loop-i
-invariant-loop-i l = Pairs l.initial.own l.own l.«data» l.n l.places l.from l.to l.r l.i
-
-abbrev pub decreases-loop-i : goal.decreases-loop-i
-decreases-loop-i l = l.to - l.i
+abbrev pub invariant-loop-j : goal.invariant-loop-j
+invariant-loop-j l = Pairs l.initial.own l.own l.«data» l.n l.places l.from l.to l.r l.j

@@ -1,10 +1,6 @@
 -- `command_writes::arguments::put_tombstones` meets its contract. The invariant: the arguments before i have their tombstones, `Tombstones`. Assumes nothing.
-use Prim.Native.Nat.{◌-◌}
 use Rattle.command_writes.proofs.ArgumentLaws.{Tombstones}
 use Rattle.command_writes.proofs.arguments.put_tombstones.Given as goal
 
 abbrev pub invariant-loop-i : goal.invariant-loop-i
 invariant-loop-i l = Tombstones l.initial.own l.own l.«data» l.n l.places l.from l.to l.r l.i
-
-abbrev pub decreases-loop-i : goal.decreases-loop-i
-decreases-loop-i l = l.to - l.i

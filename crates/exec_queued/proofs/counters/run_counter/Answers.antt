@@ -1,31 +1,18 @@
 -- `exec_queued::counters::run_counter` meets its contract. Assumes nothing.
-use native.Mathlib.Omega.{arith}
 use mir.Facts.{to_z-of_z}
 use mir.Syntax.{w64}
-use Rattle.exec_queued.proofs.CounterLaws.{lent_used, counter_place, counter_bad, counter_over, counter_raised}
+use Rattle.exec_queued.proofs.CounterLaws.{counter_place, counter_bad, counter_over, counter_raised}
 use borrow.Author.Rules.{rules}
 use Rattle.exec_queued.proofs.counters.run_counter.Goals as goal
-
-pub slice_bounds-counter_number-end-2 : goal.slice_bounds-counter_number-end-2
-slice_bounds-counter_number-end-2 c = search lent_used
 
 pub returns-in_default : goal.returns-in_default
 returns-in_default c = counter_bad _ _ _ _ _ _ _ c.args.at c.requires.own c.requires.parts_in c.requires.le_count c.counter_number-held.ensures c.in_default.is c.answer_error.ensures
 
 pub returns-in_default-checked_sum : goal.returns-in_default-checked_sum
-returns-in_default-checked_sum c = counter_over _ _ _ _ _ _ _ c.args.at c.requires.own c.requires.parts_in c.requires.le_count c.counter_number-held.ensures c.in-Int.is (to_z-of_z {w = w64} (record { sfits = (search rules) })) (to_z-of_z c.ranges.by) c.checked_sum.ensures c.in_default-checked_sum.is c.answer_error-in_default-checked_sum.ensures
-
-pub set_counter-requires-clause-own : goal.set_counter-requires-clause-own
-set_counter-requires-clause-own c = c.requires.own
+returns-in_default-checked_sum c = counter_over _ _ _ _ _ _ _ c.args.at c.requires.own c.requires.parts_in c.requires.le_count c.counter_number-held.ensures c.in-Some.is (to_z-of_z {w = w64} (record { sfits = (search rules) })) (to_z-of_z c.ranges.by) c.checked_sum.ensures c.in_default-checked_sum.is c.answer_error-in_default-checked_sum.ensures
 
 pub set_counter-requires-clause-key_in : goal.set_counter-requires-clause-key_in
 set_counter-requires-clause-key_in c = counter_place c.requires.parts_in c.requires.le_count
 
-pub set_counter-requires-clause-rows_in_bounds : goal.set_counter-requires-clause-rows_in_bounds
-set_counter-requires-clause-rows_in_bounds c = omega (arith, c.requires.le_count, c.requires.count_in_bounds)
-
-pub set_counter-requires-clause-used_in_bounds : goal.set_counter-requires-clause-used_in_bounds
-set_counter-requires-clause-used_in_bounds c = c.requires.used_in_bounds
-
 pub returns : goal.returns
-returns c = counter_raised _ _ _ _ _ _ _ c.args.at c.requires.own c.requires.parts_in c.requires.le_count c.counter_number-held.ensures c.in-Int.is (to_z-of_z {w = w64} (record { sfits = (search rules) })) (to_z-of_z c.ranges.by) c.checked_sum.ensures c.in-Int-checked_sum.is (to_z-of_z {w = w64} (record { sfits = (search rules) })) c.set_counter.ensures
+returns c = counter_raised _ _ _ _ _ _ _ c.args.at c.requires.own c.requires.parts_in c.requires.le_count c.counter_number-held.ensures c.in-Some.is (to_z-of_z {w = w64} (record { sfits = (search rules) })) (to_z-of_z c.ranges.by) c.checked_sum.ensures c.in-Some-checked_sum.is (to_z-of_z {w = w64} (record { sfits = (search rules) })) c.set_counter.ensures

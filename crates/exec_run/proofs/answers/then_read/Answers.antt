@@ -3,8 +3,8 @@ use Rattle.command_meaning.proofs.KindLaws.{least_one, least_value, least_echo}
 use Rattle.exec_run.proofs.AnswerLaws.{read_value, read_live, read_values, read_echo, read_says}
 use Rattle.exec_run.proofs.answers.then_read.Goals as goal
 
-pub argument-requires-clause-k_lt_count : goal.argument-requires-clause-k_lt_count
-argument-requires-clause-k_lt_count c = search least_value
+pub argument-requires : goal.argument-requires
+argument-requires c = search least_value
 
 pub then_live-requires-clause-le_count : goal.then_live-requires-clause-le_count
 then_live-requires-clause-le_count c = search least_one
@@ -12,8 +12,8 @@ then_live-requires-clause-le_count c = search least_one
 pub then_values-requires-clause-from_le_to : goal.then_values-requires-clause-from_le_to
 then_values-requires-clause-from_le_to c = search least_one
 
-pub argument-requires-in-Echo-clause-k_lt_count : goal.argument-requires-in-Echo-clause-k_lt_count
-argument-requires-in-Echo-clause-k_lt_count c = search least_echo
+pub argument-requires-in-Echo : goal.argument-requires-in-Echo
+argument-requires-in-Echo c = search least_echo
 
 pub returns-in-Value : goal.returns-in-Value
 returns-in-Value c = search read_value

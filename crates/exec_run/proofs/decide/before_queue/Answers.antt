@@ -11,9 +11,6 @@ returns-then-failed c = known_before _ _ _ _ _ (λ own d. exec_failed _ _ _ _ ow
 pub watched_moved-requires-clause-held : goal.watched_moved-requires-clause-held
 watched_moved-requires-clause-held c = held_by_tests _ _ _ c.requires.one_session c.requires.session_bytes_value
 
-pub watched_moved-requires-clause-valid : goal.watched_moved-requires-clause-valid
-watched_moved-requires-clause-valid c = c.requires.valid
-
 pub returns-then-watched_moved : goal.returns-then-watched_moved
 returns-then-watched_moved c = known_before _ _ _ _ _ (λ own d. exec_watched _ _ _ _ own d _ c.requires.valid (omega (arith, c.type_inv.words 2)) c.requires.out_value c.failed.ensures c.if-failed.false c.watched_moved.ensures c.if-watched_moved.true c.put_nil_array-put.ensures c.prepare-then-watched_moved.ensures)
 

@@ -1,30 +1,15 @@
-use Rattle.exec_run.proofs.WalkLaws.{walking_none, count_least, may_queue_lem, places_in, few_places, lent_parts, lent_within, rows_room, text_room, walking_more, word_in, walked_all, walking_length}
+use Rattle.exec_run.proofs.WalkLaws.{walking_none, count_least, may_queue_lem, places_in, few_places, lent_parts, lent_within, rows_room, walking_more, walked_all}
 use native.Mathlib.Omega.{arith}
 use Rattle.exec_run.proofs.queued.run_queue.Goals as goal
 
-pub word-queued-requires : goal.word-queued-requires
-word-queued-requires c = omega arith
-
 pub loop-i-init : goal.loop-i-init
 loop-i-init c = search walking_none
-
-pub overflow_add-i : goal.overflow_add-i
-overflow_add-i c = omega arith
-
-pub word-count-requires : goal.word-count-requires
-word-count-requires c = word_in c.loop-i.invariant c.requires.queued c.word-queued.ensures c.loop-i-test.true
-
-pub overflow_mul-start : goal.overflow_mul-start
-overflow_mul-start c = omega (arith, few_places c.loop-i.invariant c.requires.queued c.word-queued.ensures c.loop-i-test.true c.word-count.ensures)
 
 pub overflow_mul-end : goal.overflow_mul-end
 overflow_mul-end c = omega (arith, few_places c.loop-i.invariant c.requires.queued c.word-queued.ensures c.loop-i-test.true c.word-count.ensures)
 
 pub overflow_add-end : goal.overflow_add-end
 overflow_add-end c = omega (arith, few_places c.loop-i.invariant c.requires.queued c.word-queued.ensures c.loop-i-test.true c.word-count.ensures)
-
-pub slice_bounds-run_queued-start : goal.slice_bounds-run_queued-start
-slice_bounds-run_queued-start c = omega arith
 
 pub slice_bounds-run_queued-end : goal.slice_bounds-run_queued-end
 slice_bounds-run_queued-end c = places_in c.loop-i.invariant c.requires.queued c.word-queued.ensures c.loop-i-test.true c.word-count.ensures
@@ -47,17 +32,11 @@ run_queued-at-requires-clause-data_value c = may_queue_lem c.loop-i.invariant c.
 pub run_queued-at-requires-clause-count_in_bounds : goal.run_queued-at-requires-clause-count_in_bounds
 run_queued-at-requires-clause-count_in_bounds c = rows_room c.loop-i.invariant c.requires.queued c.word-queued.ensures c.loop-i-test.true c.word-count.ensures c.requires.session_words_in_bounds
 
-pub run_queued-at-requires-clause-used_in_bounds : goal.run_queued-at-requires-clause-used_in_bounds
-run_queued-at-requires-clause-used_in_bounds c = text_room c.loop-i.invariant c.requires.queued c.word-queued.ensures c.loop-i-test.true c.word-count.ensures
-
 pub overflow_add-first : goal.overflow_add-first
 overflow_add-first c = omega (arith, few_places c.loop-i.invariant c.requires.queued c.word-queued.ensures c.loop-i-test.true c.word-count.ensures)
 
 pub loop-i-preserved : goal.loop-i-preserved
 loop-i-preserved c = walking_more c.loop-i.invariant c.requires.queued c.word-queued.ensures c.loop-i-test.true c.word-count.ensures c.put_head.ensures c.lent_from-lent.ensures c.run_queued-at.ensures
-
-pub shape_of-out : goal.shape_of-out
-shape_of-out c = search walking_length
 
 pub returns : goal.returns
 returns c = search walked_all

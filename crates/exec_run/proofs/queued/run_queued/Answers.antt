@@ -3,27 +3,14 @@ use mir.Facts.{to_z-of_z}
 use mir.Syntax.{w64}
 use Rattle.command_meaning.proofs.KindLaws.{pairs_counted, counter_counted, read_counted}
 use Rattle.exec_run.proofs.QueuedLaws.{queued_pairs, queued_tombstones, queued_counter, queued_read}
-use Rattle.exec_queued.proofs.CounterLaws.{lent_used}
 use borrow.Author.Rules.{rules}
 use Rattle.exec_run.proofs.queued.run_queued.Goals as goal
-
-pub slice_bounds-kind_at-end-2 : goal.slice_bounds-kind_at-end-2
-slice_bounds-kind_at-end-2 c = search lent_used
-
-pub slice_bounds-run_pairs-end-in-Pairs : goal.slice_bounds-run_pairs-end-in-Pairs
-slice_bounds-run_pairs-end-in-Pairs c = search lent_used
 
 pub run_pairs-requires-clause-in_pairs : goal.run_pairs-requires-clause-in_pairs
 run_pairs-requires-clause-in_pairs c = search pairs_counted
 
-pub slice_bounds-run_tombstones-end-in-Tombstones : goal.slice_bounds-run_tombstones-end-in-Tombstones
-slice_bounds-run_tombstones-end-in-Tombstones c = search lent_used
-
 pub run_counter-requires-clause-le_count : goal.run_counter-requires-clause-le_count
 run_counter-requires-clause-le_count c = search counter_counted
-
-pub slice_bounds-then_read-end-in-Reads : goal.slice_bounds-then_read-end-in-Reads
-slice_bounds-then_read-end-in-Reads c = search lent_used
 
 pub then_read-next-requires-clause-read_bound : goal.then_read-next-requires-clause-read_bound
 then_read-next-requires-clause-read_bound c = search read_counted
@@ -35,7 +22,7 @@ pub returns-in-Tombstones : goal.returns-in-Tombstones
 returns-in-Tombstones c = search queued_tombstones
 
 pub returns-in-Counter : goal.returns-in-Counter
-returns-in-Counter c = queued_counter _ _ _ _ _ _ _ c.args.at c.kind_at-kind.ensures c.in-Counter.is (to_z-of_z {w = w64} (record { sfits = (search rules) })) c.run_counter.ensures
+returns-in-Counter c = queued_counter _ _ _ _ _ _ _ c.args.at c.kind_at.ensures c.in-Counter.is (to_z-of_z {w = w64} (record { sfits = (search rules) })) c.run_counter.ensures
 
 pub returns-in-Reads : goal.returns-in-Reads
 returns-in-Reads c = search queued_read

@@ -1,12 +1,6 @@
 -- `frames_console::frame::add_refused` meets its contract. Assumes nothing.
-use Rattle.frames_console.proofs.BeginLaws.{less_free, head_room, one_fits, refused_added}
+use Rattle.frames_console.proofs.BeginLaws.{head_room, one_fits, refused_added}
 use Rattle.frames_console.proofs.frame.add_refused.Goals as goal
-
-pub add_session-at-requires-clause-free : goal.add_session-at-requires-clause-free
-add_session-at-requires-clause-free c = less_free c.requires.free
-
-pub add_session-at-requires-clause-session_bound : goal.add_session-at-requires-clause-session_bound
-add_session-at-requires-clause-session_bound c = c.requires.session_bound
 
 pub add_end-requires-clause-free : goal.add_end-requires-clause-free
 add_end-requires-clause-free c = head_room _ c.add_session-at.ensures c.requires.free

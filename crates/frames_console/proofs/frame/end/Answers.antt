@@ -1,12 +1,9 @@
 -- `frames_console::frame::end` meets its contract. Assumes nothing.
-use Rattle.frames_console.proofs.BeginLaws.{less_free, mark_fits, line_ended}
+use Rattle.frames_console.proofs.BeginLaws.{mark_fits, line_ended}
 use Rattle.frames_console.proofs.frame.end.Goals as goal
 
-pub add_end-requires-clause-free : goal.add_end-requires-clause-free
-add_end-requires-clause-free c = less_free c.requires.free
-
 pub add_end-requires-clause-mark_fits : goal.add_end-requires-clause-mark_fits
-add_end-requires-clause-mark_fits c = mark_fits _ _ c.mark_after-last.ensures c.requires.mark_fits
+add_end-requires-clause-mark_fits c = mark_fits _ _ c.mark_after.ensures c.requires.mark_fits
 
 pub returns : goal.returns
-returns c = line_ended c.requires.memory c.requires.rest_at c.keep-kept.ensures c.mark_after-last.ensures c.add_end.ensures
+returns c = line_ended c.requires.memory c.requires.rest_at c.keep-kept.ensures c.mark_after.ensures c.add_end.ensures

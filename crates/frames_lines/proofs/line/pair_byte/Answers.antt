@@ -1,12 +1,7 @@
--- `frames_lines::line::pair_byte` meets its contract. Assumes nothing.
-use Rattle.frames_lines.proofs.HexLaws.{pair_high, pair_low, pair_both}
+-- `frames_lines::line::pair_byte` meets its contract. By the byte that is no digit. Assumes nothing.
+use Rattle.frames_lines.proofs.HexLaws.{pair_high, pair_low}
+use Rattle.frames_lines.proofs.line.pair_byte.Goals.{else-h-lt16-via-then-h-lt16+else-l-lt16, else-h-lt16-via-else-h-lt16}
 use Rattle.frames_lines.proofs.line.pair_byte.Goals as goal
 
-pub returns-then-h-ge16 : goal.returns-then-h-ge16
-returns-then-h-ge16 c = search pair_high
-
-pub returns-then-l-ge16 : goal.returns-then-l-ge16
-returns-then-l-ge16 c = search pair_low
-
-pub returns : goal.returns
-returns c = search pair_both
+pub returns-else-h-lt16 : goal.returns-else-h-lt16
+returns-else-h-lt16 c = elim c.else-h-lt16.branch [ else-h-lt16-via-then-h-lt16+else-l-lt16 w ↦ search pair_low | else-h-lt16-via-else-h-lt16 w ↦ search pair_high ]

@@ -1,11 +1,6 @@
-use Rattle.frames_lines.proofs.RestLaws.{moving_none, moving_more, moving_whole}
+-- `frames_lines::rest::move_down` meets its contract. Assumes nothing.
+use Rattle.frames_lines.proofs.RestLaws.{copied_down}
 use Rattle.frames_lines.proofs.rest.move_down.Goals as goal
 
-pub loop-i-init : goal.loop-i-init
-loop-i-init c = search moving_none
-
-pub loop-i-preserved : goal.loop-i-preserved
-loop-i-preserved c = search moving_more
-
 pub returns : goal.returns
-returns c = search moving_whole
+returns c = search copied_down

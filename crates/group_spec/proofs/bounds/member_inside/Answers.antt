@@ -1,21 +1,13 @@
--- `group_spec::bounds::member_inside` meets its contract. One law for each test. Assumes nothing.
-use Rattle.group_spec.proofs.PartTests.{write_rows_in, write_rows_out, check_rows_in, check_rows_out, writes_out, checks_decide}
+-- `group_spec::bounds::member_inside` meets its contract. The four tests together. Assumes nothing.
+use Rattle.std.proofs.Common.{rules}
+use Rattle.base_key.specs.Bytes.{◌and◌}
+use Rattle.group_spec.specs.Members.{member_inside}
 use Rattle.group_spec.proofs.bounds.member_inside.Goals as goal
 
-pub writes_inside-requires : goal.writes_inside-requires
-writes_inside-requires c = search write_rows_in
-
-pub checks_inside-requires : goal.checks_inside-requires
-checks_inside-requires c = search check_rows_in
-
 pub returns-then-writes_inside : goal.returns-then-writes_inside
-returns-then-writes_inside c = search checks_decide
+unfolding member_inside ◌and◌
+returns-then-writes_inside c = search rules
 
-pub returns-then-fits-2 : goal.returns-then-fits-2
-returns-then-fits-2 c = search writes_out
-
-pub returns-then-fits : goal.returns-then-fits
-returns-then-fits c = search check_rows_out
-
-pub returns : goal.returns
-returns c = search write_rows_out
+pub returns-else-writes_inside : goal.returns-else-writes_inside
+unfolding member_inside ◌and◌
+returns-else-writes_inside c = search rules

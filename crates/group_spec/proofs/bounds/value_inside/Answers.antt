@@ -1,9 +1,12 @@
 -- `group_spec::bounds::value_inside` meets its contract. A tombstone has no value part. Assumes nothing.
-use Rattle.group_spec.proofs.PartTests.{value_none, value_some}
+use Rattle.std.proofs.Common.{rules}
+use Rattle.group_spec.specs.Members.{value_inside}
 use Rattle.group_spec.proofs.bounds.value_inside.Goals as goal
 
 pub returns-then-word-eq0 : goal.returns-then-word-eq0
-returns-then-word-eq0 c = search value_none
+unfolding value_inside
+returns-then-word-eq0 c = search rules
 
-pub returns : goal.returns
-returns c = search value_some
+pub returns-else-word-eq0 : goal.returns-else-word-eq0
+unfolding value_inside
+returns-else-word-eq0 c = search rules

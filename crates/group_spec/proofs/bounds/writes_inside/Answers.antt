@@ -1,14 +1,12 @@
-use Rattle.group_spec.proofs.Walks.{passing_none, passing_more, passing_broken, passing_all}
+-- `group_spec::bounds::writes_inside` meets its contract. Assumes nothing.
+use Rattle.std.proofs.Common.{arith, rules, refl, ◌∙◌}
+use Rattle.std.proofs.lemmas.Iterator.{YieldsList-from_range}
+use Rattle.std.proofs.lemmas.Iterator.Search.{all_from_yields_List}
+use Rattle.group_spec.specs.Members.{write_inside}
+use Rattle.group_spec.proofs.Walks.{all_listed}
 use Rattle.group_spec.proofs.bounds.writes_inside.Goals as goal
 
-pub loop-i-init : goal.loop-i-init
-loop-i-init c = search passing_none
-
-pub loop-i-preserved : goal.loop-i-preserved
-loop-i-preserved c = search passing_more
-
-pub returns-else-write_inside : goal.returns-else-write_inside
-returns-else-write_inside c = search passing_broken
-
 pub returns : goal.returns
-returns c = search passing_all
+returns c =
+    all_from_yields_List (write_inside c.args.parts.now c.args.«data».now) _ _ _ c.all.ensures.ran (YieldsList-from_range c.args.first _ c.args.count refl (omega arith)) (λ x b q k. search rules)
+    ∙ all_listed _ _ _

@@ -1,17 +1,18 @@
-use Rattle.group_spec.proofs.ConflictLaws.{seeking_none, seeking_more, seeking_found, seeking_ended, check_key_in}
+-- `group_spec::conflict::checks_moved` meets its contract. Assumes nothing.
+use Rattle.std.proofs.Common.{arith, rules, refl, ◌∙◌}
+use Rattle.std.proofs.lemmas.Iterator.{YieldsList-from_range, serves_from_Range}
+use Rattle.std.proofs.lemmas.Iterator.Search.{any_from_yields_List}
+use Rattle.store_memtable.specs.Rows.{versions_in}
+use Rattle.store_memtable.specs.Versions.{moved}
+use Rattle.group_spec.specs.Settling.{check_key}
+use Rattle.group_spec.proofs.ConflictLaws.{check_key_in}
+use Rattle.group_spec.proofs.Walks.{any_listed}
 use Rattle.group_spec.proofs.conflict.checks_moved.Goals as goal
 
-pub loop-i-init : goal.loop-i-init
-loop-i-init c = search seeking_none
-
-pub key_moved-requires : goal.key_moved-requires
-key_moved-requires c = search check_key_in
-
-pub returns-then-key_moved : goal.returns-then-key_moved
-returns-then-key_moved c = search seeking_found
-
-pub loop-i-preserved : goal.loop-i-preserved
-loop-i-preserved c = search seeking_more
+pub any-requires-clause-callable : goal.any-requires-clause-callable
+any-requires-clause-callable c = serves_from_Range (λ x q r. search rules) (λ x lo hi. let key = check_key_in _ _ c.requires.checks_in lo hi in search rules)
 
 pub returns : goal.returns
-returns c = search seeking_ended
+returns c =
+    any_from_yields_List (λ j. moved c.args.limit (versions_in c.args.words.now c.args.bytes.now) (check_key c.args.parts.now c.args.«data».now j)) _ _ _ c.any.ensures.ran (YieldsList-from_range c.args.first _ c.args.count refl (omega arith)) (λ x b q k. search rules)
+    ∙ any_listed _ _ _ _

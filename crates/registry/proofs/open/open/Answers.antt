@@ -5,5 +5,5 @@ use Rattle.registry.proofs.open.open.Goals as goal
 pub returns-then-open : goal.returns-then-open
 returns-then-open c = search opened
 
-pub returns : goal.returns
-returns c = search unopened
+pub returns-else-open : goal.returns-else-open
+returns-else-open c = search unopened

@@ -1,13 +1,6 @@
 -- `reply_item::next::read_bulk_text` meets its contract. One law for each answer. Assumes nothing.
-use native.Mathlib.Omega.{arith}
 use Rattle.reply_item.proofs.Standing.{body_wait, body_fault, body_next}
 use Rattle.reply_item.proofs.next.read_bulk_text.Goals as goal
-
-pub overflow_add-result : goal.overflow_add-result
-overflow_add-result c = omega (arith, (c.read_body.ensures.inside _ _ c.in-Part.is).inside)
-
-pub overflow_add-result-in-Part : goal.overflow_add-result-in-Part
-overflow_add-result-in-Part c = omega (arith, (c.read_body.ensures.inside _ _ c.in-Part.is).inside)
 
 pub returns-in-Unread : goal.returns-in-Unread
 returns-in-Unread c = search body_wait

@@ -1,9 +1,6 @@
 -- `reply_item::next::step` meets its contract. Assumes nothing.
-use Rattle.reply_item.proofs.Standing.{step_line_in, step_text, step_unfinished, step_too_long}
+use Rattle.reply_item.proofs.Standing.{step_text, step_unfinished, step_too_long}
 use Rattle.reply_item.proofs.next.step.Goals as goal
-
-pub step_line-requires : goal.step_line-requires
-step_line-requires c = search step_line_in
 
 pub returns-in-Text : goal.returns-in-Text
 returns-in-Text c = search step_text

@@ -1,13 +1,6 @@
 -- `session_route::local::answer` meets its contract. Each way in its arm. Assumes nothing.
 use Rattle.session_route.proofs.Requested.{way_steers, way_watches, way_queues, way_refuses}
-use Rattle.session_route.proofs.Routing.{step_asks, queue_inside}
 use Rattle.session_route.proofs.local.answer.Goals as goal
-
-pub steer-requires-clause-steerable : goal.steer-requires-clause-steerable
-steer-requires-clause-steerable c = search step_asks
-
-pub queue_up-requires-clause-fact : goal.queue_up-requires-clause-fact
-queue_up-requires-clause-fact c = search queue_inside
 
 pub returns-in-Steer : goal.returns-in-Steer
 returns-in-Steer c = search way_steers

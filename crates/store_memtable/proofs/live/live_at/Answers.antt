@@ -1,15 +1,18 @@
 -- `store_memtable::live::live_at` meets its contract. By the value word, and then by the key before. Assumes nothing.
-use Rattle.store_memtable.proofs.Walk.{dead_at, live_first, live_later, live_newest}
+use Rattle.std.proofs.Common.{rules}
+use Rattle.base_key.specs.Bytes.{◌and◌}
+use Rattle.store_memtable.specs.Layout.{version_at}
+use Rattle.store_memtable.specs.Walk.{newest_at, live_at}
 use Rattle.store_memtable.proofs.live.live_at.Goals as goal
 
-pub returns-then-words-row-eq0 : goal.returns-then-words-row-eq0
-returns-then-words-row-eq0 c = search dead_at
-
 pub returns-then-i-eq0 : goal.returns-then-i-eq0
-returns-then-i-eq0 c = search live_first
+unfolding live_at newest_at version_at ◌and◌
+returns-then-i-eq0 c = search rules
 
-pub returns-then-same_key : goal.returns-then-same_key
-returns-then-same_key c = search live_later
+pub returns-else-i-eq0 : goal.returns-else-i-eq0
+unfolding live_at newest_at version_at ◌and◌
+returns-else-i-eq0 c = search rules
 
-pub returns : goal.returns
-returns c = search live_newest
+pub returns-else-not-is_tombstone : goal.returns-else-not-is_tombstone
+unfolding live_at newest_at version_at ◌and◌
+returns-else-not-is_tombstone c = search rules

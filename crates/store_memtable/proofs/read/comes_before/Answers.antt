@@ -1,12 +1,13 @@
 -- `store_memtable::read::comes_before` meets its contract. By how key and sequence compare. Assumes nothing.
-use Rattle.store_memtable.proofs.Rows.{before_less, before_equal, before_greater}
+use Rattle.std.proofs.Common.{rules}
+use Rattle.store_memtable.specs.Layout.{version_at}
+use Rattle.store_memtable.specs.Rows.{order_with}
 use Rattle.store_memtable.proofs.read.comes_before.Goals as goal
 
 pub returns-in-Less : goal.returns-in-Less
-returns-in-Less c = search before_less
+unfolding version_at order_with
+returns-in-Less c = search rules
 
-pub returns-in-Equal : goal.returns-in-Equal
-returns-in-Equal c = search before_equal
-
-pub returns-in-Greater : goal.returns-in-Greater
-returns-in-Greater c = search before_greater
+pub returns-in_default : goal.returns-in_default
+unfolding version_at order_with
+returns-in_default c = search rules

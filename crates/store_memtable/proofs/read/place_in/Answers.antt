@@ -1,17 +1,7 @@
-use Rattle.store_memtable.proofs.Rows.{halving_row, halving_all, halving_up, halving_down, halving_done}
+-- `store_memtable::read::place_in` meets its contract. The versions before the place come before the key, and no others. Assumes nothing.
+use Rattle.std.proofs.Common.{rules, ◌∙◌}
+use Rattle.store_memtable.proofs.Rows.{place_fits, place_splits}
 use Rattle.store_memtable.proofs.read.place_in.Goals as goal
 
-pub loop-low-init : goal.loop-low-init
-loop-low-init c = search halving_all
-
-pub comes_before-requires : goal.comes_before-requires
-comes_before-requires c = search halving_row
-
-pub loop-low-preserved-then-comes_before : goal.loop-low-preserved-then-comes_before
-loop-low-preserved-then-comes_before c = search halving_up
-
-pub loop-low-preserved : goal.loop-low-preserved
-loop-low-preserved c = search halving_down
-
 pub returns : goal.returns
-returns c = search halving_done
+returns c = c.partition_point.ensures.point _ (place_fits _ _ _ _ 0 _) (λ i holds h post. search rules ∙ place_splits _ _ _ _ _ i c.requires.ordered h)

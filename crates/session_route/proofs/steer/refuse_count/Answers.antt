@@ -1,6 +1,0 @@
--- `session_route::steer::refuse_count` meets its contract. Assumes nothing.
-use Rattle.session_route.proofs.Answering.{error_marks}
-use Rattle.session_route.proofs.steer.refuse_count.Goals as goal
-
-pub returns : goal.returns
-returns c = search error_marks

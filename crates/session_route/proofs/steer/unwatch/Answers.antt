@@ -1,9 +1,0 @@
--- `session_route::steer::unwatch` meets its contract. By what was put. Assumes nothing.
-use Rattle.session_route.proofs.Answering.{changed_full, unwatch_wrote}
-use Rattle.session_route.proofs.steer.unwatch.Goals as goal
-
-pub returns-in_default : goal.returns-in_default
-returns-in_default c = search changed_full
-
-pub returns : goal.returns
-returns c = search unwatch_wrote
