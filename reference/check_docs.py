@@ -5,7 +5,7 @@
     check_docs.py links      first makes each citation in the documents of LINKED a link, and gives each cited line its number
 
 The forms are those of docs/THEOREMS.md: `crate:File.name` a definition, `crate!File.name` a law, `crate::module::function` a function or a
-type, `crate/label` a must-fail edit; `path:line` (`text`) a line that holds the text; and REQ 4.3 a requirement. `resp::parse` is the Rust's.
+type, `crate::module::Type::function` a method, `crate/label` a must-fail edit; `path:line` (`text`) a line that holds the text; and REQ 4.3 a requirement. `resp::parse` is the Rust's.
 In the documents of LINKED an indented line quotes a source.
 """
 
@@ -67,7 +67,7 @@ def antt_place(crate, kind, path):
 
 
 def item_place(crate, *rest):
-    files = [rest[0]] if len(rest) == 2 else ["lib", "main"]
+    files = [rest[0]] if len(rest) > 1 else ["lib", "main"]
     for place in (f"crates/{crate}/src/{file}.rt" for file in files):
         if re.search(r"\b(?:fn|enum|struct|const|mod) " + re.escape(rest[-1]) + r"\b", text(place) or ""):
             return place
@@ -88,7 +88,7 @@ def path_place(document, path):
 def place_of(document, word):
     """Where a cited thing stands, from the top; None if nowhere. "" if the word cites nothing; `crate` and `NAME` stand for any crate."""
     antt = re.fullmatch(r"([a-z_0-9]+)([:!])([A-Z][A-Za-z0-9]*(?:\.[^\s,]+)?)", word)
-    item = re.fullmatch(r"([a-z_0-9]+)((?:::[A-Za-z_0-9]+){1,2})", word)
+    item = re.fullmatch(r"([a-z_0-9]+)((?:::[A-Za-z_0-9]+){1,3})", word)
     edit = re.fullmatch(r"([a-z_0-9]+)/([a-z_0-9]+)", word)
     if antt and antt[1] != "crate":
         return antt_place(*antt.groups())

@@ -43,10 +43,15 @@ def rows():
 
 def function_at(crate, path, line):
     """The function of a source file in which the line stands. An edit puts one line for one, so the numbers are those of the file as it is."""
-    heads = [re.search(r"\bfn (\w+)", text) for text in read("crates", crate, path).split("\n")[:line]]
+    lines = read("crates", crate, path).split("\n")
+    while lines[line - 1].lstrip().startswith("#["):  # an attribute stands above its function
+        line += 1
+    heads = [re.search(r"\bfn (\w+)", text) for text in lines[:line]]
     names = [head[1] for head in heads if head]
+    ends = [re.match(r"impl(?:<[^>]*>)? (?:.* for )?(\w+)|\}", text) for text in lines[:line]]
+    block = [end[1] for end in ends if end][-1:]  # the type of the `impl` block that is open, or None behind a block
     module = os.path.basename(path)[:-3]
-    return "::".join([crate] + ([] if module in ("lib", "main") else [module]) + names[-1:]) if names else None
+    return "::".join([crate] + ([] if module in ("lib", "main") else [module]) + [name for name in block if name] + names[-1:]) if names else None
 
 
 def fact(crate, said):
