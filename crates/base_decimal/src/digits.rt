@@ -31,7 +31,5 @@ pub fn put_digits(out: &mut [u8], n: u64) -> Option<usize>
 pub fn then_digits(out: &mut [u8], put: Option<usize>, n: u64) -> Option<usize>
     ensures { Adds (digits n) put out.old result out.new }
 {
-    let at = base_writing::place(put, out.len());
-    let next = put_digits(&mut out[at..], n);
-    base_writing::joined(out, put, next)
+    base_writing::then(out, put, |rest| put_digits(rest, n))
 }

@@ -23,7 +23,5 @@ pub fn put_decimal(out: &mut [u8], z: i64) -> Option<usize>
 pub fn then_decimal(out: &mut [u8], put: Option<usize>, z: i64) -> Option<usize>
     ensures { Adds (decimal z) put out.old result out.new }
 {
-    let at = base_writing::place(put, out.len());
-    let next = put_decimal(&mut out[at..], z);
-    base_writing::joined(out, put, next)
+    base_writing::then(out, put, |rest| put_decimal(rest, z))
 }

@@ -11,7 +11,7 @@ use lib.Seq.{drop-cons}
 use lib.Dec.{ltb, eqb}
 use native.Mathlib.Omega.{arith}
 use borrow.Author.Tests.{lt-ltb, le-ltb, ltb-true, ltb-false, eq-eqb, ne_eqb}
-use Rattle.std.proofs.Common.{Option, Some, None, Bor, Decides}
+use Rattle.std.proofs.Common.{Option, Some, None, Bor, Decides, nat_cmp, min}
 use Rattle.std.proofs.lemmas.Bool.Decides.{same_from_decides}
 use Rattle.std.proofs.lemmas.Slice.Eq.{bytes_eq-Decides}
 use Rattle.std.specs.List.{slice_get}
@@ -138,6 +138,34 @@ same_sym a b = turned_equal (compare_keys a b) ∙ ap is_equal (sym (compare_tur
     turned_equal Equal = refl
     turned_equal Greater = refl
 
+-- two numbers are equal, or one of them is lower
+three : (x y : ℕ) → (x ≡ y) ⊎ ((x < y) ⊎ (y < x))
+three x y = go (ltb x y) (ltb y x) refl refl
+  where
+    go : (p q : Bool) → ltb x y ≡ p → ltb y x ≡ q → (x ≡ y) ⊎ ((x < y) ⊎ (y < x))
+    go true q e f = inr (inl (ltb-true x y e))
+    go false true e f = inr (inr (ltb-true y x f))
+    go false false e f = inl (let k = ltb-false x y e in let l = ltb-false y x f in omega arith)
+
+-- the library's order of two numbers
+module _ {x y : ℕ} where
+  number_less : x < y → nat_cmp x y ≡ Less
+  number_less h = rw (lt-ltb x y h) refl
+
+  number_equal : x ≡ y → nat_cmp x y ≡ Equal
+  number_equal e = rw (le-ltb x y (omega arith), eq-eqb x y e) refl
+
+  number_greater : y < x → nat_cmp x y ≡ Greater
+  number_greater h = rw (le-ltb x y (le_of_lt h), ne_eqb x y (λ (e : x ≡ y). omega arith)) refl
+
+number_order : (x y : ℕ) → nat_cmp x y ≡ order_by (ltb x y) (ltb y x) Equal
+number_order x y = ⊎_elim
+    (λ (e : x ≡ y). number_equal e ∙ simp (le-ltb x y (omega arith), le-ltb y x (omega arith)))
+    (λ (h : (x < y) ⊎ (y < x)). ⊎_elim
+    (λ (l : x < y). number_less l ∙ simp (lt-ltb x y l))
+    (λ (l : y < x). number_greater l ∙ simp (le-ltb x y (le_of_lt l), lt-ltb y x l)) h)
+    (three x y)
+
 -- the test of bytes is the test of keys
 same_step : (x y : ℕ) (o : Ordering) → eqb x y and is_equal o ≡ is_equal (order_by (ltb x y) (ltb y x) o)
 unfolding ◌and◌
@@ -147,14 +175,6 @@ same_step x y o = ⊎_elim
     (λ (l : x < y). rw (ne_eqb x y (λ (e : x ≡ y). omega arith), lt-ltb x y l))
     (λ (l : y < x). rw (ne_eqb x y (λ (e : x ≡ y). omega arith), le-ltb x y (le_of_lt l), lt-ltb y x l)) h)
     (three x y)
-  where
-    three : (x y : ℕ) → (x ≡ y) ⊎ ((x < y) ⊎ (y < x))
-    three x y = go (ltb x y) (ltb y x) refl refl
-      where
-        go : (p q : Bool) → ltb x y ≡ p → ltb y x ≡ q → (x ≡ y) ⊎ ((x < y) ⊎ (y < x))
-        go true q e f = inr (inl (ltb-true x y e))
-        go false true e f = inr (inr (ltb-true y x f))
-        go false false e f = inl (let k = ltb-false x y e in let l = ltb-false y x f in omega arith)
 
 pub same_bytes_lem : (a b : List ℕ) → same_bytes a b ≡ same_key a b
 unfolding same_bytes same_key compare_keys
@@ -255,51 +275,57 @@ both a b i h k = rw (add-one, drop-cons a i 0, drop-cons b i 0)
 
 module _ {a b : List ℕ} {i : ℕ} (al : Alike a b i) where
   -- the bytes at i are equal
-  pub alike_more : i < length a → i < length b → get_or b i 0 ≤ get_or a i 0 → get_or a i 0 ≤ get_or b i 0 → Alike a b (i + 1)
-  alike_more h k u v = record {
+  pub alike_more : i < length a → i < length b → get_or a i 0 ≡ get_or b i 0 → Alike a b (i + 1)
+  alike_more h k e = record {
     in_a = omega arith;
     in_b = omega arith;
-    rest = al.rest ∙ both a b i h k ∙ simp (le-ltb _ _ u, le-ltb _ _ v);
+    rest = al.rest ∙ both a b i h k ∙ simp (le-ltb (get_or a i 0) (get_or b i 0) (omega (arith, e)), le-ltb (get_or b i 0) (get_or a i 0) (omega (arith, e)));
   }
 
-  pub less_here : i < length a → i < length b → get_or a i 0 < get_or b i 0 → Less ≡ compare_keys a b
-  less_here h k u = sym (al.rest ∙ both a b i h k ∙ simp (lt-ltb _ _ u))
-
-  pub greater_here : i < length a → i < length b → get_or b i 0 < get_or a i 0 → Greater ≡ compare_keys a b
-  greater_here h k u = sym (al.rest ∙ both a b i h k ∙ simp (le-ltb _ _ (le_of_lt u), lt-ltb _ _ u))
+  -- they are not: their order is that of the keys
+  pub byte_here : {o : Ordering} → i < length a → i < length b → (get_or a i 0 ≡ get_or b i 0 → ⊥) → o ≡ nat_cmp (get_or a i 0) (get_or b i 0) → o ≡ compare_keys a b
+  byte_here h k n e = e ∙ ⊎_elim
+      (λ (z : get_or a i 0 ≡ get_or b i 0). absurd (n z))
+      (λ (u : (get_or a i 0 < get_or b i 0) ⊎ (get_or b i 0 < get_or a i 0)). ⊎_elim
+      (λ (l : get_or a i 0 < get_or b i 0). number_less l ∙ sym (al.rest ∙ both a b i h k ∙ simp (lt-ltb _ _ l)))
+      (λ (l : get_or b i 0 < get_or a i 0). number_greater l ∙ sym (al.rest ∙ both a b i h k ∙ simp (le-ltb _ _ (le_of_lt l), lt-ltb _ _ l))) u)
+      (three (get_or a i 0) (get_or b i 0))
 
   -- only the first has a byte at i
-  pub longer : i < length a → length b ≤ i → Greater ≡ compare_keys a b
+  longer : i < length a → length b ≤ i → Greater ≡ compare_keys a b
   unfolding compare_keys
   longer h k = rw (al.rest, drop-cons a i 0, drop_of_length-le b {i = i} k)
 
   -- the first ends at i
-  pub shorter : length a ≤ i → length a < length b → Less ≡ compare_keys a b
+  shorter : length a ≤ i → i < length b → Less ≡ compare_keys a b
   unfolding compare_keys
-  shorter h k = let m : i < length b = omega (arith, al.in_a) in rw (al.rest, drop_of_length-le a {i = i} h, drop-cons b i 0)
+  shorter h k = rw (al.rest, drop_of_length-le a {i = i} h, drop-cons b i 0)
 
-  pub ended : length a ≤ i → length b ≤ length a → Equal ≡ compare_keys a b
+  -- both end at i
+  both_end : length a ≤ i → length b ≤ i → Equal ≡ compare_keys a b
   unfolding compare_keys
-  ended h k = rw (al.rest, drop_of_length-le a {i = i} h, drop_of_length-le b {i = i} (omega arith))
+  both_end h k = rw (al.rest, drop_of_length-le a {i = i} h, drop_of_length-le b {i = i} k)
 
--- The order of versions, from how their keys compare: `o` is that.
-module _ {o : Ordering} (a : List ℕ) (s : ℕ) (b : List ℕ) (t : ℕ) (is : o ≡ compare_keys a b) where
-  pub by_key_less : o ≡ Less → Less ≡ order_of_versions a s b t
-  unfolding order_of_versions
-  by_key_less e = simp (← is, e)
+  -- one key ends at i, or both: their lengths order them
+  pub ended : {o : Ordering} → min (length a) (length b) ≤ i → o ≡ nat_cmp (length a) (length b) → o ≡ compare_keys a b
+  ended h e = e ∙ ⊎_elim
+      (λ (z : length a ≡ length b). number_equal z ∙ both_end (omega (arith, al.in_a)) (omega (arith, al.in_b)))
+      (λ (u : (length a < length b) ⊎ (length b < length a)). ⊎_elim
+      (λ (l : length a < length b). number_less l ∙ shorter (omega arith) (omega (arith, al.in_a)))
+      (λ (l : length b < length a). number_greater l ∙ longer (omega (arith, al.in_b)) (omega arith)) u)
+      (three (length a) (length b))
 
-  pub by_key_greater : o ≡ Greater → Greater ≡ order_of_versions a s b t
+-- The order of versions, from how their keys and their sequences compare.
+module _ (a : List ℕ) (s : ℕ) (b : List ℕ) (t : ℕ) {o : Ordering} (is : o ≡ compare_keys a b) where
+  pub by_key : (o ≡ Equal → ⊥) → o ≡ order_of_versions a s b t
   unfolding order_of_versions
-  by_key_greater e = simp (← is, e)
+  by_key n = go o n ∙ ap (λ (p : Ordering). then_by p (order_by (ltb t s) (ltb s t) Equal)) is
+    where
+      go : (p : Ordering) → (p ≡ Equal → ⊥) → p ≡ then_by p (order_by (ltb t s) (ltb s t) Equal)
+      go Less h = refl
+      go Greater h = refl
+      go Equal h = absurd (h refl)
 
-  pub by_seq_less : o ≡ Equal → t < s → Less ≡ order_of_versions a s b t
+  pub by_seq : {r : Ordering} → o ≡ Equal → r ≡ nat_cmp t s → r ≡ order_of_versions a s b t
   unfolding order_of_versions
-  by_seq_less e h = simp (← is, e, lt-ltb _ _ h)
-
-  pub by_seq_greater : o ≡ Equal → s < t → Greater ≡ order_of_versions a s b t
-  unfolding order_of_versions
-  by_seq_greater e h = simp (← is, e, le-ltb _ _ (le_of_lt h), lt-ltb _ _ h)
-
-  pub by_seq_equal : o ≡ Equal → s ≤ t → t ≤ s → Equal ≡ order_of_versions a s b t
-  unfolding order_of_versions
-  by_seq_equal e h k = simp (← is, e, le-ltb _ _ h, le-ltb _ _ k)
+  by_seq e f = f ∙ number_order t s ∙ ap (λ (p : Ordering). then_by p (order_by (ltb t s) (ltb s t) Equal)) (sym e ∙ is)

@@ -12,10 +12,8 @@ use mir.Syntax.{w64}
 use mir.Val.{SFits, to_z, of_z}
 use mir.ValLaws.{to_z-of_z}
 use borrow.Author.Tests.{lt-ltb, le-ltb, ltb-true, ltb-false}
-use lib.ListN.{length}
-use Rattle.base_writing.specs.Puts.{Puts, Place, Joined, Adds}
-use Rattle.base_writing.proofs.Lent.{rest, with_rest}
-use Rattle.base_writing.proofs.Puts.{then_puts, adds, same_text, same_added}
+use Rattle.base_writing.specs.Puts.{Puts, Adds}
+use Rattle.base_writing.proofs.Puts.{then_puts, same_text}
 use Rattle.std.specs.Prelude.{SomeIff, OkIff, Result, Ok, Err}
 use Rattle.std.specs.Result.{result_ok}
 use Rattle.base_number.specs.Decimal.{digits, decimal}
@@ -120,7 +118,3 @@ module _ (z : ℤ) {size : ℕ} (fits : SFits w64 z) (is : size ≡ nat_abs (bit
   pub write_above : {entry exit : List ℕ} {after : Option ℕ} → lt_z (bits z) (pos 0) ≡ false → Puts (digits size) entry after exit → Puts (decimal z) entry after exit
   unfolding decimal
   write_above above p = same_text (ap decimal (not_below z fits above).0 ∙ ap digits (sym size_is)) p
-
--- the text of a number behind what was put, where the writer is handed the number from its bits
-pub adds_signed : (text : ℤ → List ℕ) (z : ℤ) {entry last exit : List ℕ} {put next after : Option ℕ} {at : ℕ} → SFits w64 z → Place put (length entry) at → Puts (text (bits z)) (rest at entry) next last → Joined put next (with_rest at entry last) after exit → Adds (text z) put entry after exit
-adds_signed text z fits place p joined = same_added (ap text (sym (to_z-of_z w64 z fits))) (adds place p joined)

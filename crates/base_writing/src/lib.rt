@@ -31,10 +31,7 @@ pub fn put_bytes(out: &mut [u8], text: &[u8]) -> Option<usize>
 pub fn put_byte(out: &mut [u8], byte: u8) -> Option<usize>
     ensures { Puts (byte ∷ []) out.old result out.new }
 {
-    if out.len() == 0 {
-        return None;
-    }
-    out[0] = byte;
+    *out.first_mut()? = byte;
     Some(1)
 }
 
@@ -42,40 +39,25 @@ pub fn put_byte(out: &mut [u8], byte: u8) -> Option<usize>
 pub fn place(put: Option<usize>, len: usize) -> usize
     ensures { Place put len result }
 {
-    let Some(n) = put else {
-        return len;
-    };
-    n.min(len)
+    put.unwrap_or(len).min(len)
 }
 
 // The answer to a text and the one behind it in a buffer of `len` bytes, from the answers to both.
 fn sum(put: Option<usize>, next: Option<usize>, len: usize) -> Option<usize>
     ensures { result ≡ sum_of put next len }
 {
-    let Some(n) = put else {
-        return None;
-    };
-    let Some(m) = next else {
-        return None;
-    };
-    if len < n {
-        return None;
-    }
-    if len - n < m {
-        return None;
-    }
-    Some(n + m)
+    put?.checked_add(next?).filter(|sum| *sum <= len)
 }
 
 // The same, and a refusal clears the buffer.
 pub fn joined(out: &mut [u8], put: Option<usize>, next: Option<usize>) -> Option<usize>
     ensures { Joined put next out.old result out.new }
 {
-    let Some(n) = sum(put, next, out.len()) else {
+    let both = sum(put, next, out.len());
+    if both.is_none() {
         clear(out);
-        return None;
-    };
-    Some(n)
+    }
+    both
 }
 
 // Writes behind what was put: `write` is lent the rest of the buffer. The text is any that `write` writes whatever it is lent.
@@ -96,21 +78,17 @@ pub fn then<F: FnOnce(&mut [u8]) -> Option<usize>>(
 pub fn then_bytes(out: &mut [u8], put: Option<usize>, text: &[u8]) -> Option<usize>
     ensures { Adds text.now put out.old result out.new }
 {
-    let at = place(put, out.len());
-    let next = put_bytes(&mut out[at..], text);
-    joined(out, put, next)
+    then(out, put, |rest| put_bytes(rest, text))
 }
 
 // Writes one byte behind what was put.
 pub fn then_byte(out: &mut [u8], put: Option<usize>, byte: u8) -> Option<usize>
     ensures { Adds (byte ∷ []) put out.old result out.new }
 {
-    let at = place(put, out.len());
-    let next = put_byte(&mut out[at..], byte);
-    joined(out, put, next)
+    then(out, put, |rest| put_byte(rest, byte))
 }
 
-// Writes `src` into `dst` at `at`.
+// Writes `src` into `dst` at `at`. With the library's method in its place each caller would prove anew what is left of `dst`.
 pub fn put_at<T: Copy>(dst: &mut [T], at: usize, src: &[T])
     requires { at + length src.now ≤ length dst.old }
     ensures { dst.new ≡ put_at at src.now dst.old }
@@ -118,7 +96,7 @@ pub fn put_at<T: Copy>(dst: &mut [T], at: usize, src: &[T])
     dst[at..at + src.len()].copy_from_slice(src);
 }
 
-// Moves the elements from `from` up to `to` by `by` places.
+// Moves the elements from `from` up to `to` by `by` places. With the library's method in its place each caller would prove that anew.
 pub fn shift_up<T: Copy>(a: &mut [T], from: usize, to: usize, by: usize)
     requires from_le_to { from ≤ to }
     requires by_in_bounds { to + by ≤ length a.old }

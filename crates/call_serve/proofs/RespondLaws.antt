@@ -14,7 +14,7 @@ use Rattle.store_memtable.specs.Layout.{last_word, store_in, leave_words, leave_
 use Rattle.store_memtable.proofs.Sequence.{leave_words_same, leave_bytes_same}
 use Rattle.group_spec.specs.declared.Verdict.{Verdict}
 use Rattle.group_spec.specs.Group.{plain, verdict_alone, is_accepted, verdict_byte}
-use Rattle.command_spec.specs.declared.Answer.{Answer}
+use Rattle.command_spec.specs.Numbers.{AnswerNumbers}
 use Rattle.command_spec.specs.Names.{Args, Row, row_of, name_word, arguments, count_right, with_options, operation_of, arity, control_of}
 use Rattle.command_names.specs.declared.Row.{Row as CodeRow}
 use Rattle.command_names.specs.Rows.{Looked}
@@ -113,37 +113,21 @@ module _ {w : List ℕ} {b : Bytes} {s : List ℕ} {sb out : Bytes} (z : Ready w
   pub ready_held : Held s sb
   ready_held = held_by_tests (last_word w) s sb z.one z.ok
 
--- the row of the name that stands first
-pub name_looked : (count : ℕ) (places : List ℕ) (input : Bytes) {row : CodeRow} {word : Bytes} → 1 ≤ count → word ≡ part (get_or places 0 0) (get_or places 1 0) input → Looked word row
-    → Looked (name_word (arguments_at 0 count places input)) row
-name_looked count places input {row} many n l = subst (λ (x : Bytes). Looked x row) (sym (name_first count places input many ∙ sym n)) l
-
 -- THE REQUEST, by its route
-module _ (used count : ℕ) (places : List ℕ) (input : Bytes) (w : List ℕ) (b : Bytes) (s : List ℕ) (sb out : Bytes) where
-  abbrev asked : Args
-  asked = arguments_at 0 count places input
-
+module _ (used : ℕ) (asked : Args) (w : List ℕ) (b : Bytes) (s : List ℕ) (sb out : Bytes) where
   abbrev whole : Served
   whole = finish (length out) used (respond asked (store_in w b) (session_from s sb)) (store_in w b) (session_from s sb)
 
-  module _ {row : CodeRow} {word : Bytes} {route : Route} (z : Ready w b s sb out) (many : 1 ≤ count) (n : word ≡ part (get_or places 0 0) (get_or places 1 0) input)
-      (l : Looked word row) (e : route ≡ route_by (yes? (get_or s 0 0)) (control_of row.name) row.queueable) where
-    named : name_word asked ≡ word
-    named = name_first count places input many ∙ sym n
-
-    looked : Looked (name_word asked) row
-    looked = name_looked count places input many n l
-
-    module _ {r : Answer} {out' : Bytes} where
+  module _ {row : CodeRow} {route : Route} (z : Ready w b s sb out) (looked : Looked (name_word asked) row)
+      (e : route ≡ route_by (yes? (get_or s 0 0)) (control_of row.name) row.queueable) where
+    module _ {r : AnswerNumbers} {out' : Bytes} where
       pub here_left : {way : Way} {last : ℕ} {s' : List ℕ} {sb' : Bytes} → route ≡ Here way → last ≡ get_or w 2 0
-          → AnsweredWith last (way_done way (row_of word) (arguments_at 0 count places input)) s s' sb sb' used out r out'
-          → Left (responded (length out) used (arguments_at 0 count places input) w b s sb) out w b s sb r out' w b s' sb'
+          → AnsweredWith last (way_done way (row_of (name_word asked)) asked) s s' sb sb' used out r out'
+          → Left (responded (length out) used asked w b s sb) out w b s sb r out' w b s' sb'
       unfolding responded store_in
       here_left {way} {last} {s'} {sb'} f k x =
-          let y : AnsweredWith last (way_done way (row_of (name_word asked)) asked) s s' sb sb' used out r out' =
-          subst (λ (t : Bytes). AnsweredWith last (way_done way (row_of t) asked) s s' sb sb' used out r out') (sym named) x in
           let a : AnsweredAt (store_in w b) (respond asked (store_in w b) (session_from s sb)) s s' sb sb' used out r out' =
-          here_answers s sb asked row way looked e f y (store_in w b) (sym k) in
+          here_answers s sb asked row way looked e f x (store_in w b) (sym k) in
           let g : respond asked (store_in w b) (session_from s sb) ≡ way_done way (row_of (name_word asked)) asked (store_in w b) (session_from s sb) =
           request_routed s sb asked looked e (store_in w b)
           ∙ ap (λ (t : Route). route_done t (row_of (name_word asked)) asked (store_in w b) (session_from s sb)) f ∙ (unfold route_done in refl) in
@@ -161,7 +145,7 @@ module _ (used count : ℕ) (places : List ℕ) (input : Bytes) (w : List ℕ) (
 
       pub exec_left : {w' : List ℕ} {b' s' : List ℕ} → route ≡ Exec
           → Leaves (exec_served (length out) used s sb w b) out w b s sb r out' w' b' s'
-          → Left (responded (length out) used (arguments_at 0 count places input) w b s sb) out w b s sb r out' w' b' s' sb
+          → Left (responded (length out) used asked w b s sb) out w b s sb r out' w' b' s' sb
       unfolding responded exec_served
       exec_left {w'} {b'} {s'} f x =
           let g : finish (length out) used (execute (queue_in s sb) (store_in w b) (session_from s sb)) (store_in w b) (session_from s sb) ≡ whole =
@@ -170,8 +154,8 @@ module _ (used count : ℕ) (places : List ℕ) (input : Bytes) (w : List ℕ) (
           (record { says = x.says; store = x.store; session = record { words = x.session; bytes = x.session_bytes } })
 
       pub run_left : {w' : List ℕ} {b' : Bytes} → route ≡ Run
-          → Answers (executed_of (arguments_at 0 count places input)) used out w b r out' w' b'
-          → Left (responded (length out) used (arguments_at 0 count places input) w b s sb) out w b s sb r out' w' b' s sb
+          → Answers (executed_of asked) used out w b r out' w' b'
+          → Left (responded (length out) used asked w b s sb) out w b s sb r out' w' b' s sb
       unfolding responded
       run_left {w'} {b'} f x =
           let st : Store = store_in w b in

@@ -26,7 +26,9 @@ use Rattle.store_memtable.specs.Versions.{Store}
 use Rattle.store_memtable.specs.Layout.{last_word, store_in, valid_store, leave_words, leave_bytes}
 use Rattle.store_memtable.proofs.Validity.{validated}
 use Rattle.store_memtable.proofs.Sequence.{leave_words_same, leave_bytes_same}
-use Rattle.command_spec.specs.declared.Answer.{Answer}
+use Rattle.command_spec.specs.Numbers.{AnswerNumbers}
+use Rattle.command_spec.specs.Requests.{arguments_of}
+use Rattle.command_spec.specs.declared.request.Request.{Request}
 use Rattle.command_spec.specs.Session.{Session}
 use Rattle.command_spec.specs.Sessions.{session_from, session_ok, session_at, words_of_session, bytes_of_session, valid_sessions, leave_session_words, leave_session_bytes}
 use Rattle.command_spec.specs.Places.{arguments_at, PartsIn}
@@ -39,7 +41,7 @@ use Rattle.session_route.specs.Responds.{responded, Left, Ready}
 use Rattle.session_route.proofs.Among.{lent_at, back_at, lent_words_lem, lent_bytes_lem, lent_session, words_back, bytes_back}
 use Rattle.call_spec.specs.Serve.{protocol_error, serve_reading, serve}
 use Rattle.call_spec.specs.Calls.{Lent, lent_of, valid, session_of, leave_store, leave_session, leave_served, Called, preview_of, answer_of, RequestPromise, TablePromise, PreviewPromise}
-use Rattle.exec_decision.specs.declared.Preview.{Preview}
+use Rattle.exec_decision.specs.Numbers.{PreviewNumbers}
 use Rattle.exec_decision.specs.Decided.{Decided, decide_exec, preview_decided}
 use Rattle.exec_decision.proofs.Executes.{exec_silent}
 use Rattle.exec_run.specs.Previewing.{session_decided, Previews}
@@ -52,7 +54,7 @@ use Rattle.call_spec.proofs.CallLaws.{served, preview_valid}
 use Rattle.std.specs.Prelude.{Option}
 
 -- A PROTOCOL ERROR
-pub fault_answered : (input : Bytes) (f : Fault) (s : List ℕ) (out : Bytes) {put : Option ℕ} {mid : Bytes} {s' : List ℕ} {r : Answer}
+pub fault_answered : (input : Bytes) (f : Fault) (s : List ℕ) (out : Bytes) {put : Option ℕ} {mid : Bytes} {s' : List ℕ} {r : AnswerNumbers}
     → Puts (encode (err (bytes "Protocol error: " ++ fault_text input f))) out put mid → Closes put (length input) s s' r → FaultLeft input f s out r s' mid
 unfolding protocol_error
 fault_answered input f s out {put} {mid} p c = record { leaves = λ w b sb v z h. c.leaves (protocol_error input f) w b out mid sb v z p h }
@@ -69,7 +71,7 @@ silent_left {w} {b} {s} {sb} {out} n used h =
       session = record { words = sym (words_kept (ready_held h)); bytes = sym (bytes_kept (ready_held h)) };
     }
 
-left_as : {d e : Served} {out : Bytes} {w : List ℕ} {b : Bytes} {s : List ℕ} {sb : Bytes} {r : Answer} {out' : Bytes} {w' : List ℕ} {b' : Bytes} {s' : List ℕ} {sb' : Bytes}
+left_as : {d e : Served} {out : Bytes} {w : List ℕ} {b : Bytes} {s : List ℕ} {sb : Bytes} {r : AnswerNumbers} {out' : Bytes} {w' : List ℕ} {b' : Bytes} {s' : List ℕ} {sb' : Bytes}
     → d ≡ e → Left d out w b s sb r out' w' b' s' sb' → Left e out w b s sb r out' w' b' s' sb'
 left_as {d} {e} {out} {w} {b} {s} {sb} {r} {out'} {w'} {b'} {s'} {sb'} p l = subst (λ (x : Served). Left x out w b s sb r out' w' b' s' sb') p l
 
@@ -79,7 +81,7 @@ module _ (places : List ℕ) (input : Bytes) (w : List ℕ) (b : Bytes) (s : Lis
   unfolding whole_served
   whole_empty e h = left_as (sym (ap (λ (n : ℕ). whole_served (length out) n used places input w b s sb) e)) (silent_left 0 used h)
 
-  pub whole_some : {r : Answer} {out' : Bytes} {w' : List ℕ} {b' : Bytes} {s' : List ℕ} {sb' : Bytes} → (count ≡ 0 → ⊥)
+  whole_some : {r : AnswerNumbers} {out' : Bytes} {w' : List ℕ} {b' : Bytes} {s' : List ℕ} {sb' : Bytes} → (count ≡ 0 → ⊥)
       → Left (responded (length out) used (arguments_at 0 count places input) w b s sb) out w b s sb r out' w' b' s' sb'
       → Left (whole_served (length out) count used places input w b s sb) out w b s sb r out' w' b' s' sb'
   whole_some nz l = left_as (go count nz) l
@@ -87,6 +89,13 @@ module _ (places : List ℕ) (input : Bytes) (w : List ℕ) (b : Bytes) (s : Lis
       go : (n : ℕ) → (n ≡ 0 → ⊥) → responded (length out) used (arguments_at 0 n places input) w b s sb ≡ whole_served (length out) n used places input w b s sb
       go zero h = absurd (h refl)
       go (suc n) h = unfold whole_served in refl
+
+pub whole_named : (asked : Request) (w : List ℕ) (b : Bytes) (s : List ℕ) (sb out : Bytes) (used : ℕ) {q : Request} {r : AnswerNumbers} {out' : Bytes} {w' : List ℕ} {b' : Bytes} {s' : List ℕ} {sb' : Bytes}
+    → q ≡ asked → (asked.count ≡ 0 → ⊥) → Left (responded (length out) used (arguments_of q) w b s sb) out w b s sb r out' w' b' s' sb'
+    → Left (whole_served (length out) asked.count used asked.places.now asked.input.now w b s sb) out w b s sb r out' w' b' s' sb'
+whole_named asked w b s sb out used {q} {r} {out'} {w'} {b'} {s'} {sb'} e nz l =
+    whole_some asked.places.now asked.input.now w b s sb out used nz
+    (subst (λ (x : Request). Left (responded (length out) used (arguments_of x) w b s sb) out w b s sb r out' w' b' s' sb') e l)
 
 -- THE ARGUMENTS: the table's front gives the parts
 two_more : (k j : ℕ) → 2 * suc k + j ≡ 2 * k + suc (suc j)
@@ -131,7 +140,7 @@ module _ (table : List ℕ) (ps : List Span) (front : take (length (span_words p
 
 -- ONE SESSION, by what was read
 module _ (input : Bytes) (w : List ℕ) (b : Bytes) (s : List ℕ) (sb out : Bytes) (h : Ready w b s sb out) where
-  abbrev Leaving : Reading → Answer → Bytes → List ℕ → Bytes → List ℕ → Bytes → Type 0
+  abbrev Leaving : Reading → AnswerNumbers → Bytes → List ℕ → Bytes → List ℕ → Bytes → Type 0
   Leaving x r out' w' b' s' sb' = Left (serve_reading (length out) input x (store_in w b) (session_from s sb)) out w b s sb r out' w' b' s' sb'
 
   wait_by : (x : Reading) → Wait ≡ read_answer x → Leaving x (refusal 0) out w b s sb
@@ -148,7 +157,7 @@ module _ (input : Bytes) (w : List ℕ) (b : Bytes) (s : List ℕ) (sb out : Byt
   many_by too_many e = silent_left 2 0 h
   many_by (whole ps used) e = let z : ◌≡◌ {A = ℕ} 0 1 = cc in absurd (omega arith)
 
-  fault_by : (x : Reading) (f : Fault) {r : Answer} {out' : Bytes} {s' : List ℕ} → Faulty f ≡ read_answer x → FaultLeft input f s out r s' out' → Leaving x r out' w b s' sb
+  fault_by : (x : Reading) (f : Fault) {r : AnswerNumbers} {out' : Bytes} {s' : List ℕ} → Faulty f ≡ read_answer x → FaultLeft input f s out r s' out' → Leaving x r out' w b s' sb
   unfolding serve_reading
   fault_by waits f e l = let z : ◌≡◌ {A = ℕ} 0 1 = cc in absurd (omega arith)
   fault_by (faulty g) f {r} {out'} {s'} e l =
@@ -174,7 +183,7 @@ module _ (input : Bytes) (w : List ℕ) (b : Bytes) (s : List ℕ) (sb out : Byt
   whole_is [] used table f = refl
   whole_is (p ∷ ps) used table f = ap (λ (a : List Bytes). responded (length out) used a w b s sb) (table_arguments table (p ∷ ps) f input)
 
-  whole_by : (x : Reading) {count used : ℕ} (table : List ℕ) {r : Answer} {out' : Bytes} {w' : List ℕ} {b' : Bytes} {s' : List ℕ} {sb' : Bytes} → Whole count used ≡ read_answer x
+  whole_by : (x : Reading) {count used : ℕ} (table : List ℕ) {r : AnswerNumbers} {out' : Bytes} {w' : List ℕ} {b' : Bytes} {s' : List ℕ} {sb' : Bytes} → Whole count used ≡ read_answer x
       → take (length (argument_words x)) table ≡ argument_words x → Left (whole_served (length out) count used table input w b s sb) out w b s sb r out' w' b' s' sb' → Leaving x r out' w' b' s' sb'
   unfolding argument_words
   whole_by waits table e f l = let z : ◌≡◌ {A = ℕ} 0 1 = cc in absurd (omega arith)
@@ -186,22 +195,22 @@ module _ (input : Bytes) (w : List ℕ) (b : Bytes) (s : List ℕ) (sb out : Byt
       left_as ((λ z. whole_served (length out) (same_count z) (same-used z) table input w b s sb) ∙ whole_is ps u table f) l
 
   module _ (places : ℕ) {r : Read} {table : List ℕ} (is : ReadIs (read_request places input) r table) where
-    pub serve_wait : {a : Answer} → r ≡ Wait → a ≡ refusal 0 → Left (served_in places (length out) input w b s sb) out w b s sb a out w b s sb
+    pub serve_wait : {a : AnswerNumbers} → r ≡ Wait → a ≡ refusal 0 → Left (served_in places (length out) input w b s sb) out w b s sb a out w b s sb
     unfolding served_in serve
     serve_wait e f = rw f (wait_by (read_request places input) (sym e ∙ is.answer))
 
-    pub serve_many : {a : Answer} → r ≡ TooMany → a ≡ refusal 2 → Left (served_in places (length out) input w b s sb) out w b s sb a out w b s sb
+    pub serve_many : {a : AnswerNumbers} → r ≡ TooMany → a ≡ refusal 2 → Left (served_in places (length out) input w b s sb) out w b s sb a out w b s sb
     unfolding served_in serve
     serve_many e f = rw f (many_by (read_request places input) (sym e ∙ is.answer))
 
-    pub serve_fault : {f : Fault} {a : Answer} {out' : Bytes} {s' : List ℕ} → r ≡ Faulty f → FaultLeft input f s out a s' out' → Left (served_in places (length out) input w b s sb) out w b s sb a out' w b s' sb
+    pub serve_fault : {f : Fault} {a : AnswerNumbers} {out' : Bytes} {s' : List ℕ} → r ≡ Faulty f → FaultLeft input f s out a s' out' → Left (served_in places (length out) input w b s sb) out w b s sb a out' w b s' sb
     unfolding served_in serve
     serve_fault {f} e l = fault_by (read_request places input) f (sym e ∙ is.answer) l
 
     pub serve_parts : {count used : ℕ} → r ≡ Whole count used → PartsIn table input count
     serve_parts e = parts_by (read_request places input) table (sym e ∙ is.answer) (request_in places input) is.front
 
-    pub serve_whole : {count used : ℕ} {a : Answer} {out' : Bytes} {w' : List ℕ} {b' : Bytes} {s' : List ℕ} {sb' : Bytes} → r ≡ Whole count used
+    pub serve_whole : {count used : ℕ} {a : AnswerNumbers} {out' : Bytes} {w' : List ℕ} {b' : Bytes} {s' : List ℕ} {sb' : Bytes} → r ≡ Whole count used
         → Left (whole_served (length out) count used table input w b s sb) out w b s sb a out' w' b' s' sb' → Left (served_in places (length out) input w b s sb) out w b s sb a out' w' b' s' sb'
     unfolding served_in serve
     serve_whole e l = whole_by (read_request places input) table (sym e ∙ is.answer) is.front l
@@ -296,7 +305,7 @@ module _ (i : ℕ) (w : List ℕ) (b : Bytes) (sw : List ℕ) (sb out : Bytes) (
   }
 
   -- THE PROMISE of the request call
-  pub session_served : (input : Bytes) (places : ℕ) {r : Answer} {out' : Bytes} {w' : List ℕ} {b' : Bytes} {s₁ : List ℕ} {sb₁ : Bytes}
+  pub session_served : (input : Bytes) (places : ℕ) {r : AnswerNumbers} {out' : Bytes} {w' : List ℕ} {b' : Bytes} {s₁ : List ℕ} {sb₁ : Bytes}
       → Left (served_in places (length out) input w b (lent_at 644 i sw) (lent_at 10240 i sb)) out w b (lent_at 644 i sw) (lent_at 10240 i sb) r out' w' b' s₁ sb₁
       → RequestPromise i input places out (lent_of w b sw sb) r out' (lent_of w' b' (back_at 644 i sw s₁) (back_at 10240 i sb sb₁))
   unfolding leave_store leave_session
@@ -321,7 +330,7 @@ module _ (i : ℕ) (w : List ℕ) (b : Bytes) (sw : List ℕ) (sb out : Bytes) (
   }
 
   -- THE PROMISE of the preview call
-  pub session_previewed : {r : Preview} {out' : Bytes} → Previews (last_word w) (session_decided (length out) (lent_at 644 i sw) (lent_at 10240 i sb) w b) out r out' → PreviewPromise i out (lent_of w b sw sb) r out' (lent_of w b sw sb)
+  pub session_previewed : {r : PreviewNumbers} {out' : Bytes} → Previews (last_word w) (session_decided (length out) (lent_at 644 i sw) (lent_at 10240 i sb) w b) out r out' → PreviewPromise i out (lent_of w b sw sb) r out' (lent_of w b sw sb)
   unfolding session_decided store_in
   session_previewed {r} {out'} l =
       let told = preview_valid i (length out) (lent_of w b sw sb) (lt-ltb i 16 h.below) h.fit in

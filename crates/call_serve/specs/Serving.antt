@@ -6,7 +6,7 @@ use Rattle.resp_spec.specs.Request.{Reading}
 use Rattle.resp_spec.specs.Steps.{argument_words}
 use Rattle.store_memtable.specs.Layout.{store_in}
 use Rattle.store_memtable.specs.Rows.{Valid}
-use Rattle.command_spec.specs.declared.Answer.{Answer}
+use Rattle.command_spec.specs.Numbers.{AnswerNumbers}
 use Rattle.command_spec.specs.Session.{clear, says}
 use Rattle.command_spec.specs.Sessions.{session_from}
 use Rattle.command_spec.specs.Held.{Held}
@@ -18,7 +18,7 @@ use Rattle.call_spec.specs.Serve.{protocol_error, serve}
 use Rattle.call_spec.specs.Calls.{lent_of, valid}
 
 -- a protocol error answered, with any valid store and session
-pub record FaultLeft (input : Bytes) (f : Fault) (s : List ℕ) (out : Bytes) (r : Answer) (s' : List ℕ) (out' : Bytes) : Type 0 where
+pub record FaultLeft (input : Bytes) (f : Fault) (s : List ℕ) (out : Bytes) (r : AnswerNumbers) (s' : List ℕ) (out' : Bytes) : Type 0 where
   pub leaves : (w b sb : Bytes) → Valid w b → out ≡ replicate (length out) 0 → Held s sb
       → Leaves (finish (length out) (length input) (says (protocol_error input f) (store_in w b) clear) (store_in w b) (session_from s sb)) out w b s sb r out' w b s'
 

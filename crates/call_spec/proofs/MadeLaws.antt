@@ -15,9 +15,9 @@ use Rattle.group_spec.specs.declared.Verdict.TheVariants.{NotTaken}
 use Rattle.group_spec.specs.Group.{Pending, Finished, group, taken, member_size, judge_all, verdict_byte}
 use Rattle.group_spec.specs.Members.{group_fits, pending_of}
 use Rattle.group_spec.proofs.GroupLaws.{verdicts_long}
-use Rattle.command_spec.specs.declared.Answer.{Answer}
+use Rattle.command_spec.specs.Numbers.{AnswerNumbers}
 use Rattle.command_spec.specs.Finish.{Served, reply_buffer}
-use Rattle.exec_decision.specs.declared.Preview.{Preview}
+use Rattle.exec_decision.specs.Numbers.{PreviewNumbers}
 use Rattle.exec_decision.specs.Decided.{Decided, decide_exec}
 use Rattle.call_spec.specs.Serve.{Outcome, refused, outcome_of, answered, previewed, serve}
 use Rattle.call_spec.specs.Calls.{Lent, lent_of, valid, store_of, session_of, leave_served, refuses, Called, StoreCalled, with_store, refuses_store, gives_store, judged, open_call, request_call, preview_call, verdict_in, group_call, verdict_buffer, RequestPromise, PreviewPromise, GroupPromise, Call, outcomes, final}
@@ -49,7 +49,7 @@ no_verdicts i input places room l = go (ltb i 16) (valid l)
     go true false = (refl, refl)
     go true true = (refl, refl)
 
-request_seen_lem : {i : ℕ} {input : Bytes} {places : ℕ} {buffer : Bytes} {l : Lent} {r : Answer} {buffer' : Bytes} {l₁ : Lent}
+request_seen_lem : {i : ℕ} {input : Bytes} {places : ℕ} {buffer : Bytes} {l : Lent} {r : AnswerNumbers} {buffer' : Bytes} {l₁ : Lent}
     → RequestPromise i input places buffer l r buffer' l₁ → request_seen r buffer' ≡ (request_call i input places (length buffer) l).outcome
 request_seen_lem {i} {input} {places} {buffer} {l} {r} {buffer'} p =
     let o : Outcome = (request_call i input places (length buffer) l).outcome in
@@ -117,7 +117,7 @@ preview_whole i room l = go (ltb i 16) (valid l)
     go true false = refl
     go true true = told (eqb d.number 0) refl
 
-preview_seen_lem : {i : ℕ} {buffer : Bytes} {l : Lent} {r : Preview} {buffer' : Bytes} {l₁ : Lent}
+preview_seen_lem : {i : ℕ} {buffer : Bytes} {l : Lent} {r : PreviewNumbers} {buffer' : Bytes} {l₁ : Lent}
     → PreviewPromise i buffer l r buffer' l₁ → preview_seen r buffer' ≡ (preview_call i (length buffer) l).outcome
 preview_seen_lem {i} {buffer} {l} {r} {buffer'} p =
     let o : Outcome = (preview_call i (length buffer) l).outcome in

@@ -22,9 +22,9 @@ use Rattle.command_spec.specs.Names.{Args, Row, row_of, name_word, EXEC, control
 use Rattle.command_spec.specs.Command.{Ran}
 use Rattle.command_spec.specs.Session.{Session, clear, says, outside_multi, Decision, exec_abort, any_moved, verdict_exec, decided, decide, apply, inside_multi, respond_by, respond, execute}
 use Rattle.command_spec.proofs.SessionLaws.{ran_by, writes_by}
-use Rattle.command_spec.specs.declared.Answer.{Answer}
+use Rattle.command_spec.specs.Numbers.{AnswerNumbers}
 use Rattle.command_spec.specs.Finish.{Served, silent, fitted, finish_by, finish, reply_buffer}
-use Rattle.exec_decision.specs.declared.Preview.{Preview}
+use Rattle.exec_decision.specs.Numbers.{PreviewNumbers}
 use Rattle.exec_decision.specs.Decided.{stopped, decided_reply, decided_by, decide_queue, decide_by, decide_exec}
 use Rattle.exec_decision.proofs.Executes.{decide_failed, decide_runs, ExecNumber, exec_number}
 use Rattle.call_spec.specs.Serve.{serve_reading, serve, Outcome, refused, previewed, exec_previewed}
@@ -180,11 +180,11 @@ made_agrees i buffer l r buffer' l' p input places out m a out' m' q copy long x
     let o : Outcome = (preview_call i (length buffer) l).outcome in
     let c : Called = request_call i input places (length out) m in
     let k : ExecAgrees o m c = subst (λ (n : ℕ). ExecAgrees o m (request_call i input places n m)) (sym long) (exec_agrees i (length buffer) l m copy input places x) in
-    let number : r.number ≡ o.number = ap (λ (y : Preview). y.number) p.preview in
-    let last : r.last ≡ o.last = ap (λ (y : Preview). y.last) p.preview in
+    let number : r.number ≡ o.number = ap (λ (y : PreviewNumbers). y.number) p.preview in
+    let last : r.last ≡ o.last = ap (λ (y : PreviewNumbers). y.last) p.preview in
     record {
-      number = ap (λ (y : Answer). y.number) q.answer ∙ k.number ∙ sym number;
-      reply = ap (λ (y : Answer). y.reply) q.answer ∙ ap length k.reply ∙ sym (ap (λ (y : Preview). y.reply) p.preview);
+      number = ap (λ (y : AnswerNumbers). y.number) q.answer ∙ k.number ∙ sym number;
+      reply = ap (λ (y : AnswerNumbers). y.reply) q.answer ∙ ap length k.reply ∙ sym (ap (λ (y : PreviewNumbers). y.reply) p.preview);
       buffer = q.reply ∙ (λ z. reply_buffer (long z) (k.reply z)) ∙ sym p.reply;
       last = λ z. ap (λ (y : Lent). (store_of y).last) q.lent ∙ k.last (sym number ∙ z) ∙ sym last;
       refused = λ z. let y = k.refused (λ e. z (number ∙ e)) in (q.lent ∙ y.0, last ∙ y.1);

@@ -12,9 +12,9 @@ use Rattle.group_spec.specs.Group.{Finished, group, verdict_byte}
 use Rattle.group_spec.specs.Members.{group_fits, pending_of}
 use Rattle.command_spec.specs.Session.{Session}
 use Rattle.command_spec.specs.Sessions.{session_at, valid_sessions, leave_session_words, leave_session_bytes}
-use Rattle.command_spec.specs.declared.Answer.{Answer}
+use Rattle.command_spec.specs.Numbers.{AnswerNumbers}
 use Rattle.command_spec.specs.Finish.{Served, reply_buffer}
-use Rattle.exec_decision.specs.declared.Preview.{Preview}
+use Rattle.exec_decision.specs.Numbers.{PreviewNumbers}
 use Rattle.call_spec.specs.Serve.{serve, State, session_in, with_store_of, Outcome, refused, outcome_of, answered, exec_previewed, Stepped, request_on, preview_on}
 
 -- the lent state: a store and sixteen sessions
@@ -105,7 +105,7 @@ request_call i input places room l = elim (ltb i 16) [
 ]
 
 -- the struct that the request call returns
-abbrev pub answer_of : Outcome → Answer
+abbrev pub answer_of : Outcome → AnswerNumbers
 answer_of o = record { number = o.number; used = o.used; reply = length o.reply }
 
 -- PREVIEW of EXEC: the lent state stays. The arguments: the session and the length of the reply buffer
@@ -123,7 +123,7 @@ abbrev pub verdict_in : Outcome → ℕ
 verdict_in o = get_or o.verdicts 0 255
 
 -- the struct that the preview call returns
-abbrev pub preview_of : Outcome → Preview
+abbrev pub preview_of : Outcome → PreviewNumbers
 preview_of o = record { number = o.number; verdict = verdict_in o; reply = length o.reply; last = o.last }
 
 -- GROUP. 9, then 8; a call that returns one of them writes no verdict byte.
@@ -151,7 +151,7 @@ pub record OpenPromise (last versions size : ℕ) (w : List ℕ) (b : Bytes) (r 
   pub bytes : b' ≡ (open_call last versions size w b).bytes
 
 -- `buffer` is the reply buffer, before and after
-pub record RequestPromise (i : ℕ) (input : Bytes) (places : ℕ) (buffer : Bytes) (l : Lent) (r : Answer) (buffer' : Bytes) (l' : Lent) : Type 0 where
+pub record RequestPromise (i : ℕ) (input : Bytes) (places : ℕ) (buffer : Bytes) (l : Lent) (r : AnswerNumbers) (buffer' : Bytes) (l' : Lent) : Type 0 where
   pub answer : r ≡ answer_of (request_call i input places (length buffer) l).outcome
   pub reply : buffer' ≡ reply_buffer (length buffer) (request_call i input places (length buffer) l).outcome.reply
   pub lent : l' ≡ (request_call i input places (length buffer) l).lent
@@ -163,7 +163,7 @@ pub record TablePromise (i : ℕ) (input : Bytes) (l : Lent) (t t' : List ℕ) :
   pub unread : (ltb i 16 and valid l) ≡ false → t' ≡ t
 
 -- a preview leaves the store and the sessions as they were
-pub record PreviewPromise (i : ℕ) (buffer : Bytes) (l : Lent) (r : Preview) (buffer' : Bytes) (l' : Lent) : Type 0 where
+pub record PreviewPromise (i : ℕ) (buffer : Bytes) (l : Lent) (r : PreviewNumbers) (buffer' : Bytes) (l' : Lent) : Type 0 where
   pub preview : r ≡ preview_of (preview_call i (length buffer) l).outcome
   pub reply : buffer' ≡ reply_buffer (length buffer) (preview_call i (length buffer) l).outcome.reply
   pub lent : l' ≡ (preview_call i (length buffer) l).lent

@@ -8,8 +8,8 @@ use Rattle.store_memtable.specs.Versions.{table}
 use Rattle.group_spec.specs.declared.Member.{Member}
 use Rattle.command_spec.specs.Session.{clear}
 use Rattle.command_spec.specs.Sessions.{session_at, valid_sessions}
-use Rattle.command_spec.specs.declared.Answer.{Answer}
-use Rattle.exec_decision.specs.declared.Preview.{Preview}
+use Rattle.command_spec.specs.Numbers.{AnswerNumbers}
+use Rattle.exec_decision.specs.Numbers.{PreviewNumbers}
 use Rattle.call_spec.specs.Serve.{Outcome, outcome_of}
 use Rattle.call_spec.specs.Calls.{Lent, lent_of, valid, store_of, session_of, with_store, OpenPromise, RequestPromise, PreviewPromise, GroupPromise, Call, request, grouped, preview}
 use Rattle.call_spec.specs.Posting.{events, Item, Client, history, closed_clients, post_all, AllHold}
@@ -17,7 +17,7 @@ use Rattle.call_spec.specs.Verdicts.{new_transaction, VerdictsPosted}
 use Rattle.call_spec.specs.Demand3.{Opened, OnlyCounted, text_of, sum, SumOf, NoStaleExec, NoStalePosted, clients_after, without, to_others, PostsNothing, SameBut, kept_calls, kept_outcomes, NoneAccepted, NoNine}
 
 -- WHAT THE CALLER SEES of a request: the reply is in front of the reply buffer
-abbrev pub request_seen : Answer → Bytes → Outcome
+abbrev pub request_seen : AnswerNumbers → Bytes → Outcome
 request_seen r buffer = outcome_of r.number r.used (take r.reply buffer) [] 0
 
 -- and of a group: a verdict byte for each member, unless a number is returned
@@ -25,19 +25,19 @@ abbrev pub group_seen : ℕ → List Member → Bytes → Outcome
 group_seen n ms v = outcome_of n 0 [] (cond (eqb n 0) (take (length ms) v) []) 0
 
 -- and of a preview: its verdict, unless a number is returned
-abbrev pub preview_seen : Preview → Bytes → Outcome
+abbrev pub preview_seen : PreviewNumbers → Bytes → Outcome
 preview_seen r buffer = outcome_of r.number 0 (take r.reply buffer) (cond (eqb r.number 0) (r.verdict ∷ []) []) r.last
 
 -- the lent memory before the calls, the calls, what the caller saw of each, and the lent memory after them
 pub data Made : Lent → List Call → List Outcome → Lent → Type 0 where
   unmade : {l : Lent} → Made l [] [] l
-  by_request : {i : ℕ} {input : Bytes} {places : ℕ} {buffer : Bytes} {l : Lent} {r : Answer} {buffer' : Bytes} {l₁ l₂ : Lent} {cs : List Call} {os : List Outcome}
+  by_request : {i : ℕ} {input : Bytes} {places : ℕ} {buffer : Bytes} {l : Lent} {r : AnswerNumbers} {buffer' : Bytes} {l₁ l₂ : Lent} {cs : List Call} {os : List Outcome}
       → RequestPromise i input places buffer l r buffer' l₁ → Made l₁ cs os l₂
       → Made l (request i input places (length buffer) ∷ cs) (request_seen r buffer' ∷ os) l₂
   by_group : {ms : List Member} {parts : List ℕ} {d v : Bytes} {l : Lent} {n : ℕ} {v' : Bytes} {w' : List ℕ} {b' : Bytes} {l₂ : Lent} {cs : List Call} {os : List Outcome}
       → GroupPromise ms parts d v l.words l.bytes n v' w' b' → Made (with_store w' b' l) cs os l₂
       → Made l (grouped ms parts d v ∷ cs) (group_seen n ms v' ∷ os) l₂
-  by_preview : {i : ℕ} {buffer : Bytes} {l : Lent} {r : Preview} {buffer' : Bytes} {l₁ l₂ : Lent} {cs : List Call} {os : List Outcome}
+  by_preview : {i : ℕ} {buffer : Bytes} {l : Lent} {r : PreviewNumbers} {buffer' : Bytes} {l₁ l₂ : Lent} {cs : List Call} {os : List Outcome}
       → PreviewPromise i buffer l r buffer' l₁ → Made l₁ cs os l₂
       → Made l (preview i (length buffer) ∷ cs) (preview_seen r buffer' ∷ os) l₂
 

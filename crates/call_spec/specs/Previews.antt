@@ -3,8 +3,8 @@ use Rattle.std.specs.Prelude.{ℕ, List, [], ◌∷◌, Bool, true, false, cond,
 use Rattle.base_key.specs.Bytes.{Bytes}
 use Rattle.resp_spec.specs.Request.{read_request}
 use Rattle.resp_spec.specs.Reply.{NilArray}
-use Rattle.command_spec.specs.declared.Answer.{Answer}
-use Rattle.exec_decision.specs.declared.Preview.{Preview}
+use Rattle.command_spec.specs.Numbers.{AnswerNumbers}
+use Rattle.exec_decision.specs.Numbers.{PreviewNumbers}
 use Rattle.call_spec.specs.Serve.{Outcome}
 use Rattle.call_spec.specs.Calls.{Lent, valid, store_of, Called, request_call, preview_call, verdict_in, RequestPromise, PreviewPromise, Call, request, grouped, preview, call, outcomes, final}
 use Rattle.call_spec.specs.Posting.{asked_by, is_reply, is_array, events}
@@ -36,7 +36,7 @@ PreviewClaim =
     ExecAgrees (preview_call i room l).outcome m (request_call i input places room m)
 
 -- THE SAME OF THE CALLS MADE: `r` and `buffer'` are what the preview returned and wrote, `a`, `out'` and `m'` what EXEC returned, wrote and left
-pub record MadeAgrees (r : Preview) (buffer' : Bytes) (m : Lent) (a : Answer) (out' : Bytes) (m' : Lent) : Type 0 where
+pub record MadeAgrees (r : PreviewNumbers) (buffer' : Bytes) (m : Lent) (a : AnswerNumbers) (out' : Bytes) (m' : Lent) : Type 0 where
   pub number : a.number ≡ r.number
   pub reply : a.reply ≡ r.reply
   pub buffer : out' ≡ buffer'
@@ -45,8 +45,8 @@ pub record MadeAgrees (r : Preview) (buffer' : Bytes) (m : Lent) (a : Answer) (o
 
 abbrev pub MadePreviewClaim : Type 0
 MadePreviewClaim =
-    (i : ℕ) (buffer : Bytes) (l : Lent) (r : Preview) (buffer' : Bytes) (l' : Lent) → PreviewPromise i buffer l r buffer' l' →
-    (input : Bytes) (places : ℕ) (out : Bytes) (m : Lent) (a : Answer) (out' : Bytes) (m' : Lent) → RequestPromise i input places out m a out' m' →
+    (i : ℕ) (buffer : Bytes) (l : Lent) (r : PreviewNumbers) (buffer' : Bytes) (l' : Lent) → PreviewPromise i buffer l r buffer' l' →
+    (input : Bytes) (places : ℕ) (out : Bytes) (m : Lent) (a : AnswerNumbers) (out' : Bytes) (m' : Lent) → RequestPromise i input places out m a out' m' →
     Copy i l m → length out ≡ length buffer → asks_exec (asked_by input (read_request places input)) ≡ true → MadeAgrees r buffer' m a out' m'
 
 -- PREVIEWS IN A LIST OF CALLS

@@ -6,11 +6,10 @@ use lib.IntN.{pos}
 use Rattle.command_meaning.proofs.KindLaws.{least_one}
 use Rattle.command_spec.proofs.PlaceLaws.{arguments_of, name_of}
 use Rattle.base_key.specs.Bytes.{Bytes}
-use Rattle.base_writing.specs.Puts.{Puts}
-use Rattle.base_writing.proofs.Puts.{same_text}
-use Rattle.resp_spec.specs.Reply.{Reply, Integer, BulkString, bulk_or, encode}
+use Rattle.base_writing.specs.Puts.{Puts, Adds}
+use Rattle.base_writing.proofs.Puts.{then_puts, puts_nothing, same_text}
+use Rattle.resp_spec.specs.Reply.{Reply, Integer, BulkString, array, bulk_or, encode}
 use Rattle.command_spec.specs.declared.Fixed.{Fixed}
-use Rattle.command_spec.specs.Names.{Args}
 use Rattle.command_spec.specs.Command.{argument, live, unknown_command}
 use Rattle.command_spec.specs.Errors.{fixed_reply, arity_of}
 use Rattle.command_spec.specs.Places.{arguments_at}
@@ -20,8 +19,14 @@ use Rattle.command_meaning.specs.declared.Refusal.{Refusal}
 use Rattle.command_meaning.specs.declared.Refusal.TheVariants as refusal
 use Rattle.command_meaning.specs.Meant.{refusal_reply}
 use Rattle.command_meaning.specs.Kinds.{live_reply, read_reply, least_read}
-use Rattle.command_room.specs.Reading.{last_reader, values_reply}
-use Rattle.std.specs.Prelude.{Option}
+use Rattle.command_room.specs.Reading.{last_reader}
+use Rattle.store_memtable.specs.Table.{Reader}
+use Rattle.store_memtable.specs.Versions.{read_at}
+use Rattle.store_memtable.specs.Layout.{last_word}
+use Rattle.store_memtable.specs.Rows.{versions_in}
+use Rattle.command_lookup.specs.See.{value_replies}
+use Rattle.command_direct.proofs.LastReader.{last_is}
+use Rattle.std.specs.Prelude.{Option, Some}
 
 -- EACH REPLY
 module _ (w : List ℕ) (b : Bytes) (p : List ℕ) (d : Bytes) (count : ℕ) (q : Read) {out out' : Bytes} {put : Option ℕ} where
@@ -30,20 +35,21 @@ module _ (w : List ℕ) (b : Bytes) (p : List ℕ) (d : Bytes) (count : ℕ) (q 
   as_reply e x-is a =
       same_text (ap encode (ap (λ (t : Read). read_reply t (last_reader w b) (arguments_at 0 count p d)) e ∙ sym x-is)) a
 
-  pub read_value : {k : Bytes} → q ≡ Value → k ≡ argument 1 (arguments_at 0 count p d) → Puts (encode (bulk_or (last_reader w b k))) out put out'
-      → Puts (encode (read_reply q (last_reader w b) (arguments_at 0 count p d))) out put out'
-  unfolding read_reply
-  read_value e k-is a = as_reply e (ap (λ (x : Bytes). bulk_or (last_reader w b x)) k-is) a
+  module _ {r : Reader} (r-is : r ≡ read_at (last_word w) (versions_in w b)) where
+    pub read_value : {k : Bytes} → q ≡ Value → k ≡ argument 1 (arguments_at 0 count p d) → Adds (encode (bulk_or (r k))) (Some 0) out put out'
+        → Puts (encode (read_reply q (last_reader w b) (arguments_at 0 count p d))) out put out'
+    unfolding read_reply
+    read_value e k-is a = as_reply e (λ z. bulk_or (last_is w b refl refl r-is z (k-is z))) (then_puts (puts_nothing out) a)
 
-  pub read_live : q ≡ Live → least_read q ≤ count → Puts (encode (Integer (pos (live (last_reader w b) (arguments_at 1 (count - 1) p d))))) out put out'
-      → Puts (encode (read_reply q (last_reader w b) (arguments_at 0 count p d))) out put out'
-  unfolding read_reply live_reply
-  read_live e h a = as_reply e (ap (λ (x : Args). Integer (pos (live (last_reader w b) x))) (sym (arguments_of p d count (least_one q h)))) a
+    pub read_live : q ≡ Live → least_read q ≤ count → Puts (encode (Integer (pos (live r (arguments_at 1 (count - 1) p d))))) out put out'
+        → Puts (encode (read_reply q (last_reader w b) (arguments_at 0 count p d))) out put out'
+    unfolding read_reply live_reply
+    read_live e h a = as_reply e (λ z. Integer (pos (live (last_is w b refl refl r-is z) (sym (arguments_of p d count (least_one q h)) z)))) a
 
-  pub read_values : q ≡ Values → least_read q ≤ count → Puts (encode (values_reply w b (arguments_at 1 (count - 1) p d))) out put out'
-      → Puts (encode (read_reply q (last_reader w b) (arguments_at 0 count p d))) out put out'
-  unfolding read_reply values_reply
-  read_values e h a = as_reply e (ap (values_reply w b) (sym (arguments_of p d count (least_one q h)))) a
+    pub read_values : q ≡ Values → least_read q ≤ count → Adds (encode (array (value_replies r (arguments_at 1 (count - 1) p d)))) (Some 0) out put out'
+        → Puts (encode (read_reply q (last_reader w b) (arguments_at 0 count p d))) out put out'
+    unfolding read_reply
+    read_values e h a = as_reply e (λ z. array (value_replies (last_is w b refl refl r-is z) (sym (arguments_of p d count (least_one q h)) z))) (then_puts (puts_nothing out) a)
 
   pub read_echo : {k : Bytes} → q ≡ Echo → k ≡ argument 1 (arguments_at 0 count p d) → Puts (encode (BulkString k)) out put out'
       → Puts (encode (read_reply q (last_reader w b) (arguments_at 0 count p d))) out put out'

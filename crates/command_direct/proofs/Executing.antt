@@ -5,7 +5,7 @@ use mathlib.Core.List.{List, []}
 use lib.ListN.{length}
 use Rattle.base_key.specs.Bytes.{Bytes}
 use Rattle.store_memtable.specs.Layout.{store_in}
-use Rattle.command_spec.specs.declared.Answer.{Answer}
+use Rattle.command_spec.specs.Numbers.{AnswerNumbers}
 use Rattle.command_spec.specs.Names.{Args, row_of, name_word, arguments}
 use Rattle.command_spec.specs.Command.{Command, FIXED, Effect, Executed, runs, lists, request_operation, command_as, executed_of, run}
 use Rattle.command_spec.specs.Session.{Session, direct}
@@ -44,7 +44,7 @@ module _ {a : Args} {count : ℕ} {e : CodeExecuted} (x : ExecutedIs a count e) 
   meant_here e-is = x.is ∙ ap (λ (t : CodeExecuted). executed_meant (row_of (name_word a)).name t a) e-is
 
 -- THE CALL
-module _ (p : List ℕ) (d : Bytes) (count used : ℕ) (w b : List ℕ) {e : CodeExecuted} {out out' : Bytes} {r : Answer} {w' b' : List ℕ}
+module _ (p : List ℕ) (d : Bytes) (count used : ℕ) (w b : List ℕ) {e : CodeExecuted} {out out' : Bytes} {r : AnswerNumbers} {w' b' : List ℕ}
     (x : ExecutedIs (arguments_at 0 count p d) count e) where
   -- a command by its effect
   by_effect : (c : Command) → executed_of (arguments_at 0 count p d) ≡ runs c → {t : Effect} → t ≡ run (last_reader w b) c → Runs t used out w b r out' w' b'
@@ -62,10 +62,13 @@ module _ (p : List ℕ) (d : Bytes) (count used : ℕ) (w b : List ℕ) {e : Cod
   unfolding executed_meant
   run_answers e-is a = by_effect (command_as (request_operation (arguments_at 0 count p d)) (arguments (arguments_at 0 count p d))) (meant_here x e-is) (sym ((kind_here x e-is).effect (last_reader w b))) a
 
-  pub list_answers : {l : CodeListing} → e ≡ executed.Lists l → Answers (lists (listing_meant l (arguments_at 0 count p d))) used out w b r out' w' b' → Answers (executed_of (arguments_at 0 count p d)) used out w b r out' w' b'
-  unfolding executed_meant
-  list_answers e-is a = subst (λ (t : Executed). Answers t used out w b r out' w' b') (sym (meant_here x e-is)) a
-
   pub refusal_answers : {f : Refusal} → e ≡ executed.Refused f → Runs (refusal_reply f (arguments_at 0 count p d), []) used out w b r out' w' b' → Answers (executed_of (arguments_at 0 count p d)) used out w b r out' w' b'
   unfolding executed_meant run
   refusal_answers {f} e-is a = by_effect (FIXED (refusal_reply f (arguments_at 0 count p d))) (meant_here x e-is) refl a
+
+-- a listing leaves the store: the one that is read is the one that is lent
+pub list_answers : (p : List ℕ) (d : Bytes) (count used : ℕ) {e : CodeExecuted} {out out' : Bytes} {r : AnswerNumbers} {w b w₁ b₁ : List ℕ} {l : CodeListing}
+    → ExecutedIs (arguments_at 0 count p d) count e → w₁ ≡ w → b₁ ≡ b → e ≡ executed.Lists l → Answers (lists (listing_meant l (arguments_at 0 count p d))) used out w₁ b₁ r out' w₁ b₁
+    → Answers (executed_of (arguments_at 0 count p d)) used out w b r out' w b
+unfolding executed_meant
+list_answers p d count used x w-is b-is e-is a = rw (meant_here x e-is, ← w-is, ← b-is) a

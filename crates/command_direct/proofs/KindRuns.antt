@@ -1,16 +1,16 @@
 -- A command by what it does, from what the function of its kind leaves. Assumes nothing.
 use Prim.Native.Nat.{ℕ, ◌+◌, ◌-◌, ◌*◌, ◌/◌, ◌≤◌}
 use native.Mathlib.Omega.{arith}
-use mathlib.Core.Path.{◌≡◌, refl, sym, ap, ◌∙◌, subst}
+use mathlib.Core.Path.{◌≡◌, sym, ap, ◌∙◌, subst}
 use mathlib.Core.List.{List, [], map}
 use lib.IntN.{ℤ, pos}
 use Rattle.command_spec.proofs.PlaceLaws.{arguments_of}
 use Rattle.base_key.specs.Bytes.{Bytes}
 use Rattle.resp_spec.specs.Reply.{Integer, ok}
-use Rattle.command_spec.specs.declared.Answer.{Answer}
+use Rattle.command_spec.specs.Numbers.{AnswerNumbers}
 use Rattle.command_spec.specs.Names.{Args}
 use Rattle.command_spec.specs.Command.{Effect, argument, pairs_of, put, tombstone, live, held, raised}
-use Rattle.command_spec.specs.Places.{arguments_at, tombstones_at, pairs_at, PartsIn}
+use Rattle.command_spec.specs.Places.{arguments_at, tombstones_at, pairs_at}
 use Rattle.command_meaning.specs.declared.Read.{Read}
 use Rattle.command_meaning.specs.declared.Kind.{Kind}
 use Rattle.command_meaning.specs.declared.Kind.TheVariants.{Pairs, Tombstones, Counter, Reads}
@@ -24,16 +24,14 @@ module _ {k : Kind} {count : ℕ} (h : KindCounted k count) where
   pub pairs_some : k ≡ Pairs → 1 ≤ count
   pairs_some e = omega (arith, (pairs_counted h e).least)
 
-  pub pairs_in : {p : List ℕ} {d : Bytes} → k ≡ Pairs → PartsIn p d count → PartsIn p d (1 + 2 * ((count - 1) / 2))
-  pairs_in {p} {d} e i =
-      let n : count ≡ 1 + 2 * ((count - 1) / 2) = omega (arith, (pairs_counted h e).pairs) in
-      subst (λ (m : ℕ). PartsIn p d m) n i
+  pub pairs_in : k ≡ Pairs → 1 + 2 * ((count - 1) / 2) ≤ count
+  pairs_in e = omega (arith, (pairs_counted h e).pairs)
 
   pub tombstones_some : k ≡ Tombstones → 1 ≤ count
   tombstones_some e = omega (arith, tombstones_counted h e)
 
 -- EACH KIND
-module _ (w : List ℕ) (b : Bytes) (p : List ℕ) (d : Bytes) (count used : ℕ) (k : Kind) {out out' : Bytes} {r : Answer} {w' b' : List ℕ} where
+module _ (w : List ℕ) (b : Bytes) (p : List ℕ) (d : Bytes) (count used : ℕ) (k : Kind) {out out' : Bytes} {r : AnswerNumbers} {w' b' : List ℕ} where
   as_effect : {x : Effect} {t : Kind} → k ≡ t → x ≡ kind_effect t (last_reader w b) (arguments_at 0 count p d) → Runs x used out w b r out' w' b'
       → Runs (kind_effect k (last_reader w b) (arguments_at 0 count p d)) used out w b r out' w' b'
   as_effect e x-is a =
@@ -65,7 +63,9 @@ module _ (w : List ℕ) (b : Bytes) (p : List ℕ) (d : Bytes) (count used : ℕ
   runs_counter e same name_is a =
       as_effect e (λ i. raised (name_is i) (same i) (held (last_reader w b (name_is i)))) a
 
-  pub runs_read : {q : Read} → k ≡ Reads q → Runs (read_reply q (last_reader w b) (arguments_at 0 count p d), []) used out w b r out' w' b'
-      → Runs (kind_effect k (last_reader w b) (arguments_at 0 count p d)) used out w b r out' w' b'
-  unfolding kind_effect
-  runs_read e a = as_effect e refl a
+-- a reply alone: the store that is read is the one that is lent
+pub runs_read : (p : List ℕ) (d : Bytes) (count used : ℕ) (k : Kind) {q : Read} {out out' : Bytes} {r : AnswerNumbers} {w b w₁ b₁ : List ℕ} → k ≡ Reads q → w₁ ≡ w → b₁ ≡ b
+    → Runs (read_reply q (last_reader w₁ b₁) (arguments_at 0 count p d), []) used out w₁ b₁ r out' w₁ b₁
+    → Runs (kind_effect k (last_reader w b) (arguments_at 0 count p d)) used out w b r out' w b
+unfolding kind_effect
+runs_read p d count used k e w-is b-is a = rw (e, ← w-is, ← b-is) a

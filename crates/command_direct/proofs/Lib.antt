@@ -3,4 +3,5 @@ pub mod Answering
 pub mod Commands
 pub mod Executing
 pub mod KindRuns
+pub mod LastReader
 pub mod Listed

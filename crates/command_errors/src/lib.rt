@@ -45,9 +45,7 @@ pub fn put_fixed(out: &mut [u8], which: Fixed) -> Option<usize>
 pub fn then_fixed(out: &mut [u8], put: Option<usize>, which: Fixed) -> Option<usize>
     ensures { Adds (encode (fixed_reply which)) put out.old result out.new }
 {
-    let at = base_writing::place(put, out.len());
-    let next = put_fixed(&mut out[at..], which);
-    base_writing::joined(out, put, next)
+    base_writing::then(out, put, |rest| put_fixed(rest, which))
 }
 
 // The error for a name that is none.

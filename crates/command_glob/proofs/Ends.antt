@@ -6,20 +6,17 @@ use Rattle.std.specs.Prelude.{Option, None, Some}
 use Prim.Native.Nat.{ℕ, zero, suc, ◌+◌, ◌-◌, ◌<◌, ◌≤◌}
 use native.Mathlib.Omega.{arith}
 use native.Mathlib.Decide.{dec_le}
-use borrow.Author.Tests.{eqb-true, eqb-false, le-leb, lt-leb}
+use borrow.Author.Tests.{eqb-true, eqb-false, le-leb, lt-leb, not-true}
 use lib.Dec.{eqb, leb}
 use lib.ListN.{length, get_or, drop, length-drop, drop_of_length-le}
 use lib.Seq.{drop-nil, drop-drop}
 use Rattle.base_key.specs.Bytes.{Bytes}
+use Rattle.base_key.proofs.Bytes.{neither}
 use Rattle.command_spec.specs.declared.pattern.Compared.{Compared}
 use Rattle.command_spec.specs.declared.pattern.Compared.TheVariants.{Matches, Differs, DiffersByTheEnd}
 use Rattle.command_spec.specs.Glob.{Token, literal, one, star, tokens, matches, some_tail, glob, or_else, after_last_star, end_missing, told, glob_told}
 use Rattle.command_spec.specs.GlobWalk.{TokenAt, AtStar, behind_star, LastStar, EndFound}
 use Rattle.command_glob.proofs.Globbing.{step_one, step_literal, step_other, star_tails, tail_first, tail_next, no_tail_behind, no_tail, Retrying, glob_star}
-
--- no and yes at once
-clash : {A : Type 0} {b : Bool} → b ≡ true → b ≡ false → A
-clash p q = let z : ◌≡◌ {A = ℕ} 0 1 = cc in absurd (omega arith)
 
 -- EVERY MATCH NEEDS ITS END: where no end of the name matches what follows the last star, the whole does not match.
 literal_fails : (c : ℕ) (p : List Token) (b : ℕ) (s : Bytes) → matches p s ≡ false → matches (literal c ∷ p) (b ∷ s) ≡ false
@@ -68,14 +65,14 @@ star_first p e = go (after_last_star p) e
 plain_length : (t : List Token) → after_last_star t ≡ None → (s : Bytes) → matches t s ≡ true → length s ≡ length t
 unfolding after_last_star matches
 plain_length [] n [] e = refl
-plain_length [] n (b ∷ s) e = clash refl (sym e)
-plain_length (literal c ∷ p) n [] e = clash refl (sym e)
+plain_length [] n (b ∷ s) e = neither refl (sym e)
+plain_length (literal c ∷ p) n [] e = neither refl (sym e)
 plain_length (literal c ∷ p) n (b ∷ s) e = ap suc (plain_length p n s (go (matches p s) refl))
   where
     go : (v : Bool) → matches p s ≡ v → matches p s ≡ true
     go true q = q
-    go false q = clash e (literal_fails c p b s q)
-plain_length (one ∷ p) n [] e = clash refl (sym e)
+    go false q = neither e (literal_fails c p b s q)
+plain_length (one ∷ p) n [] e = neither refl (sym e)
 plain_length (one ∷ p) n (b ∷ s) e = ap suc (plain_length p n s e)
 plain_length (star ∷ p) n s e = absurd (star_first p n)
 
@@ -190,8 +187,8 @@ pub record Pairing (p s : Bytes) (behind end at used : ℕ) : Type 0 where
   pub plain : after_last_star (tokens (drop at p)) ≡ None
   pub rest : matches (tokens (drop behind p)) (drop end s) ≡ matches (tokens (drop at p)) (drop used s)
 
-pub pairing_none : {p s : Bytes} {behind end : ℕ} → LastStar p behind (length s - end) → end ≤ length s → Pairing p s behind end behind end
-pairing_none {p} {s} {behind} {end} a h = record { within = a.within; inside = h; counted = a.counted; plain = from_plain p behind a.is; rest = refl }
+pub pairing_none : {p s : Bytes} {behind count end : ℕ} → LastStar p behind count → count ≡ length s - end → end ≤ length s → Pairing p s behind end behind end
+pairing_none {p} {s} {behind} {end = end} a e h = record { within = a.within; inside = h; counted = a.counted ∙ e; plain = from_plain p behind a.is; rest = refl }
 
 module _ {p s : Bytes} {behind end at used : ℕ} (k : Pairing p s behind end at used) where
   pub paired_all : tokens (drop at p) ≡ [] → true ≡ matches (tokens (drop behind p)) (drop end s)
@@ -256,7 +253,7 @@ module _ {p : Bytes} (s : Bytes) {behind count : ℕ} (a : LastStar p behind cou
       where
         go : Dec (count ≤ length s) → count ≤ length s
         go (Prim.yes h) = h
-        go (Prim.no h) = clash (sym is ∙ e) (sym (name_short (omega arith)))
+        go (Prim.no h) = neither (sym is ∙ e) (sym (name_short (omega arith)))
 
     pub end_there : EndFound p s behind (length s - count)
     end_there = record {
@@ -311,12 +308,8 @@ whole_fails : (f : Bytes → Bool) (s : Bytes) → some_tail f s ≡ false → f
 whole_fails f s e = go (f s) refl
   where
     go : (v : Bool) → f s ≡ v → f s ≡ false
-    go true q = clash (tail_first f s q) e
+    go true q = neither (tail_first f s q) e
     go false q = q
-
-not-false : (v : Bool) → not v ≡ true → v ≡ false
-not-false true e = clash refl (sym e)
-not-false false e = refl
 
 module _ (p s : Bytes) where
   missing_none : after_last_star (tokens p) ≡ None → end_missing (after_last_star (tokens p)) s ≡ false
@@ -407,5 +400,5 @@ only_by_the_end p s e = go (after_last_star (tokens p)) refl (missed (glob p s) 
     missed false false q = let z : ◌≡◌ {A = ℕ} 0 1 = cc in absurd (omega arith)
 
     go : (o : Option (List Token)) → after_last_star (tokens p) ≡ o → end_missing o s ≡ true → ByTheEnd p s
-    go None q f = clash refl (sym f)
-    go (Some t) q f = record { behind = t; is = q; none_matches = λ k. whole_fails (matches t) (drop k s) (no_tail_behind (matches t) s k (not-false _ f)) }
+    go None q f = neither refl (sym f)
+    go (Some t) q f = record { behind = t; is = q; none_matches = λ k. whole_fails (matches t) (drop k s) (no_tail_behind (matches t) s k (not-true _ f)) }

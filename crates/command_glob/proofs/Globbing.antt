@@ -1,15 +1,20 @@
 -- Laws of glob patterns: the steps along a pattern, and that retrying the last star suffices. Assumes nothing.
 use mathlib.Core.Path.{◌≡◌, refl, sym, ap, ◌∙◌, subst}
-use mathlib.Core.Bool.{Bool, true, false}
+use mathlib.Core.Bool.{Bool, true, false, not, cond}
 use mathlib.Core.List.{List, [], ◌∷◌}
 use Prim.Native.Nat.{ℕ, zero, suc, ◌+◌, ◌-◌, ◌<◌, ◌≤◌}
 use native.Mathlib.Nat.{add-zero, add_comm}
 use native.Mathlib.Numerals.{add-one}
 use native.Mathlib.Omega.{arith}
-use borrow.Author.Tests.{eq-eqb, ne_eqb}
+use borrow.Author.Tests.{eq-eqb, ne_eqb, eqb-false}
 use lib.Dec.{eqb}
 use lib.ListN.{length, get_or, take, drop, drop_of_length-le, length-drop}
 use lib.Seq.{drop-cons, drop-drop, take_all}
+use Rattle.std.specs.Prelude.{Option, None, Some}
+use Rattle.std.specs.List.{position, position_or_len}
+use Rattle.std.proofs.lemmas.Bool.Decides.{nat_tests}
+use Rattle.std.proofs.lemmas.Grind.{common_steps}
+use Rattle.std.proofs.lemmas.List.Sums.{prefix_len-le-length}
 use Rattle.base_key.specs.Bytes.{Bytes}
 use Rattle.command_spec.specs.declared.pattern.Step.{Step}
 use Rattle.command_spec.specs.declared.pattern.Step.TheVariants as step
@@ -254,14 +259,52 @@ other_byte : (b : ℕ) (t : List Token) (c : ℕ) (s : Bytes) → (c ≡ b → �
 unfolding matches
 other_byte b t c s ne = rw (matches, ne_eqb c b ne)
 
-pub byte_passed_more : {s : Bytes} {b from i : ℕ} → BytePassed s b from i → i < length s → (get_or s i 0 ≡ b → ⊥) → BytePassed s b from (i + 1)
-byte_passed_more {s} {b} {from} {i} k h ne = record {
-  forward = omega (arith, k.forward);
-  inside = omega arith;
-  rest = λ t.
-      k.rest t ∙ ap (some_tail (matches (literal b ∷ t))) (from_here s i h)
-      ∙ tail_next (matches (literal b ∷ t)) (get_or s i 0) (drop (i + 1) s) (other_byte b t (get_or s i 0) (drop (i + 1) s) ne);
-}
+-- no tail in front of the first such byte begins with it
+passed_to : (b : ℕ) (t : List Token) (s : Bytes)
+    → some_tail (matches (literal b ∷ t)) s ≡ some_tail (matches (literal b ∷ t)) (drop (position_or_len (λ (x : ℕ). eqb x b) s) s)
+passed_to b t [] = refl
+passed_to b t (x ∷ s) = go (eqb x b) refl (passed_to b t s)
+  where
+    f : Bytes → Bool
+    f = matches (literal b ∷ t)
+
+    n : ℕ
+    n = position_or_len (λ (x : ℕ). eqb x b) s
+
+    go : (v : Bool) → eqb x b ≡ v → some_tail f s ≡ some_tail f (drop n s) → some_tail f (x ∷ s) ≡ some_tail f (drop (cond (not (eqb x b)) (1 + n) 0) (x ∷ s))
+    go true e again = ap (λ (v : Bool). some_tail f (drop (cond (not v) (1 + n) 0) (x ∷ s))) (sym e)
+    go false e again =
+        let later : suc n ≡ 1 + n = omega arith in
+        tail_next f x s (other_byte b t x s (eqb-false x b e)) ∙ again ∙ ap (λ (m : ℕ). some_tail f (drop m (x ∷ s))) later
+        ∙ ap (λ (v : Bool). some_tail f (drop (cond (not v) (1 + n) 0) (x ∷ s))) (sym e)
+
+module _ (s : Bytes) (b from : ℕ) (h : from ≤ length s) where
+  abbrev first : ℕ
+  first = position_or_len (λ (x : ℕ). eqb x b) (drop from s)
+
+  passed_first : (next : ℕ) → next ≡ from + first → BytePassed s b from next
+  passed_first next e = record {
+    forward = omega arith;
+    inside = omega (arith, prefix_len-le-length (λ (x : ℕ). not (eqb x b)) (drop from s), length-drop from s);
+    rest = λ t. passed_to b t (drop from s) ∙ ap (some_tail (matches (literal b ∷ t))) (drop-drop first from s ∙ ap (λ (n : ℕ). drop n s) (sym e));
+  }
+
+  -- the rest of the name is lent as a part of it
+  module _ {o : Option ℕ} (o-is : o ≡ position (λ (x : ℕ). eqb x b) (take (length s - from) (drop from s))) where
+    at_first : o ≡ position (λ (x : ℕ). eqb x b) (drop from s)
+    at_first = o-is ∙ ap (position (λ (x : ℕ). eqb x b)) (take_all (length s - from) (drop from s) (omega (arith, length-drop from s)))
+
+    pub place_found : {i : ℕ} → o ≡ Some i → BytePassed s b from (from + i)
+    place_found {i} e =
+        let found : position (λ (x : ℕ). eqb x b) (drop from s) ≡ Some i = sym at_first ∙ e in
+        let here : first ≡ i = grind (arith, common_steps, nat_tests) in
+        passed_first (from + i) (omega arith)
+
+    pub place_missing : o ≡ None → BytePassed s b from (length s)
+    place_missing e =
+        let none : position (λ (x : ℕ). eqb x b) (drop from s) ≡ None = sym at_first ∙ e in
+        let all : length (drop from s) ≤ first = grind (arith, common_steps, nat_tests) in
+        passed_first (length s) (omega (arith, prefix_len-le-length (λ (x : ℕ). not (eqb x b)) (drop from s), length-drop from s))
 
 pub retry_passed : {p s : Bytes} {start first at from i : ℕ} → Retrying p s start first at from → Passed (tokens (drop at p)) s from i → Retrying p s start first at i
 retry_passed r k = record { within = r.within; inside = k.inside; rest = r.rest ∙ k.rest }

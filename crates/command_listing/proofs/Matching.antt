@@ -21,7 +21,9 @@ use Rattle.command_spec.specs.declared.pattern.Compared.{Compared}
 use Rattle.command_spec.specs.declared.pattern.Compared.TheVariants.{Matches, Differs, DiffersByTheEnd}
 use Rattle.command_spec.specs.Glob.{glob, glob_told}
 use Rattle.command_glob.proofs.Ends.{yes, same_answer}
-use Rattle.command_listing.specs.Rest.{rest, matching, keys_reply, one_if, SeenFrom}
+use Rattle.store_memtable.proofs.Walk.{found_below}
+use Rattle.command_listing.specs.Rest.{rest, matching, keys_reply, one_if, SeenFrom, MatchAt, MatchFrom}
+use Rattle.std.specs.Borrow.{Bor}
 use Rattle.command_listing.proofs.Rests.{rest_all, rest_few, rest_none, rest_some, take_first, drop_first}
 use Rattle.std.specs.Prelude.{Option, None, Some}
 
@@ -124,23 +126,39 @@ module _ {w b p : List ℕ} {from most i left matched : ℕ} (k : Looking w b p 
 pub relist : {whole rest other : List Reply} {put after : Option ℕ} {entry out : Bytes} → rest ≡ other → Listed whole rest put entry after out → Listed whole other put entry after out
 relist {whole} {put = put} {after = after} {entry = entry} {out = out} e g = subst (λ (l : List Reply). Listed whole l put entry after out) e g
 
+-- THE NEXT MATCH. No key before place i matches
+pub record Missing (w b p : List ℕ) (from i : ℕ) : Type 0 where
+  pub same : matching p (rest w b from) ≡ matching p (rest w b i)
+
+module _ {w b p : List ℕ} {from i : ℕ} (k : Missing w b p from i) {o : Option ℕ} (is : o ≡ next_live w b i (count_word w - i)) where
+  pub missing_all : o ≡ None → matching p (rest w b from) ≡ []
+  missing_all e = k.same ∙ ap (matching p) (rest_none w b i is e) ∙ matching_nothing p
+
+  module _ {j : ℕ} {name : Bytes} {r : Bool} (e : o ≡ Some j) (n : name ≡ (version_at w b j).key) (g : r ≡ glob p name) where
+    found_there : {t : Bool} → r ≡ t → matching p (rest w b from) ≡ cond t (entry_at w b j ∷ matching p (rest w b (j + 1))) (matching p (rest w b (j + 1)))
+    found_there f =
+        k.same ∙ ap (matching p) (rest_some w b i is e)
+        ∙ matching_first p (entry_at w b j) (rest w b (j + 1)) (ap (glob p) (sym n) ∙ sym g ∙ f)
+
+    pub match_at : r ≡ true → MatchAt w b p from j name
+    match_at f = record { below = found_below _ _ _ is e; named = n; first = found_there f }
+
+    pub missing_more : r ≡ false → Missing w b p from (j + 1)
+    missing_more f = record { same = found_there f }
+
 -- WRITING. The walk at place i, with `left` of `count` keys still to be written; `put` and `entry` are as the loop found them, behind the head
 pub record Writing (w b p : List ℕ) (from count i left : ℕ) (put : Option ℕ) (entry : Bytes) (after : Option ℕ) (out : Bytes) : Type 0 where
   pub listed : Listed (map key_reply (take count (matching p (rest w b from)))) (map key_reply (take left (matching p (rest w b i)))) put entry after out
 
 module _ {w b p : List ℕ} {from count i left : ℕ} {put next : Option ℕ} {entry mid : Bytes} (k : Writing w b p from count i left put entry next mid) where
-  module _ {o : Option ℕ} {j : ℕ} {name : Bytes} {r : Bool} (is : o ≡ next_live w b i (count_word w - i)) (e : o ≡ Some j) (n : name ≡ (version_at w b j).key) (g : r ≡ glob p name) where
-    found_there : {t : Bool} → r ≡ t → matching p (rest w b i) ≡ cond t (entry_at w b j ∷ matching p (rest w b (j + 1))) (matching p (rest w b (j + 1)))
-    found_there f = ap (matching p) (rest_some w b i is e) ∙ matching_first p (entry_at w b j) (rest w b (j + 1)) (ap (glob p) (sym n) ∙ sym g ∙ f)
-
-    pub writing_match : {after : Option ℕ} {exit : Bytes} → 0 < left → r ≡ true → Adds (encode (BulkString name)) next mid after exit → Writing w b p from count (j + 1) (left - 1) put entry after exit
-    writing_match h f a =
-        let q : take left (matching p (rest w b i)) ≡ entry_at w b j ∷ take (left - 1) (matching p (rest w b (j + 1))) =
-        ap (take left) (found_there f) ∙ take_first h (entry_at w b j) (matching p (rest w b (j + 1))) in
-        record { listed = listed_more (BulkString (version_at w b j).key) (relist (ap (map key_reply) q) k.listed) (rw n at a) }
-
-    pub writing_miss : r ≡ false → Writing w b p from count (j + 1) left put entry next mid
-    writing_miss f = record { listed = relist (ap (λ (l : Table). map key_reply (take left l)) (found_there f)) k.listed }
+  pub writing_match : {o : Option (ℕ × Bor Bytes)} {j left' : ℕ} {name : Bor Bytes} {after : Option ℕ} {exit : Bytes} → 0 < left → left - 1 ≡ left'
+      → MatchFrom w b p i o → o ≡ Some (j, name) → Adds (encode (BulkString name.now)) next mid after exit → Writing w b p from count (j + 1) left' put entry after exit
+  writing_match {j = j} h l found e a =
+      rw (← l)
+      let m = subst (MatchFrom w b p i) e found in
+      let q : take left (matching p (rest w b i)) ≡ entry_at w b j ∷ take (left - 1) (matching p (rest w b (j + 1))) =
+      ap (take left) m.first ∙ take_first h (entry_at w b j) (matching p (rest w b (j + 1))) in
+      record { listed = listed_more (BulkString (version_at w b j).key) (relist (ap (map key_reply) q) k.listed) (rw m.named at a) }
 
   module _ {start : Bytes} (fits : count ≤ length (matching p (rest w b from))) (s : Puts (head 42 count) start put entry) where
     counted : count ≡ length (map key_reply (take count (matching p (rest w b from))))
@@ -154,8 +172,8 @@ module _ {w b p : List ℕ} {from count i left : ℕ} {put next : Option ℕ} {e
     unfolding keys_reply
     written_out over = listed_all (map key_reply (take count (matching p (rest w b from)))) counted s (relist (ap (map key_reply) over) k.listed)
 
-    pub writing_over : {o : Option ℕ} → o ≡ next_live w b i (count_word w - i) → o ≡ None → Puts (encode (keys_reply (take count (matching p (rest w b from))))) start next mid
-    writing_over is e = written_out (ap (take left) (ap (matching p) (rest_none w b i is e) ∙ matching_nothing p) ∙ take-nil left)
+    pub writing_over : {o : Option (ℕ × Bor Bytes)} → MatchFrom w b p i o → o ≡ None → Puts (encode (keys_reply (take count (matching p (rest w b from))))) start next mid
+    writing_over none e = written_out (ap (take left) (subst (MatchFrom w b p i) e none) ∙ take-nil left)
 
     pub writing_end : left ≤ 0 → Puts (encode (keys_reply (take count (matching p (rest w b from))))) start next mid
     writing_end h = let z : left ≡ 0 = omega arith in written_out (ap (λ (x : ℕ). take x (matching p (rest w b i))) z)

@@ -1,12 +1,13 @@
 -- What the walks of a listing read: the entries of the table from a place of the store on.
-use Rattle.std.specs.Prelude.{ℕ, ◌-◌, ◌≡◌, Bool, true, false, List, [], ◌∷◌, map, length, take, drop}
+use Rattle.std.specs.Prelude.{ℕ, ◌+◌, ◌-◌, ◌<◌, ◌≡◌, Bool, true, false, List, [], ◌∷◌, map, length, take, drop, Option, None, Some}
+use Rattle.std.specs.Borrow.{Bor}
 use Rattle.base_key.specs.Bytes.{Bytes}
 use Rattle.base_key.specs.Keys.{Key, key_below}
 use Rattle.resp_spec.specs.Reply.{Reply, array}
 use Rattle.store_memtable.specs.declared.store.Store.{Store}
 use Rattle.store_memtable.specs.Table.{Table}
-use Rattle.store_memtable.specs.Layout.{count_word}
-use Rattle.store_memtable.specs.Walk.{live_from}
+use Rattle.store_memtable.specs.Layout.{count_word, version_at}
+use Rattle.store_memtable.specs.Walk.{live_from, entry_at}
 use Rattle.command_spec.specs.Command.{keep, key_reply, pair_replies}
 use Rattle.command_spec.specs.Glob.{glob}
 
@@ -35,6 +36,17 @@ keys_reply t = array (map key_reply t)
 pub record SeenFrom (w : List ℕ) (b pattern : Bytes) (from most matched next : ℕ) : Type 0 where
   pub count : matched ≡ length (matching pattern (take most (rest w b from)))
   pub stop : rest w b next ≡ drop most (rest w b from)
+
+-- the first matching key from place `from` on is this one
+pub record MatchAt (w : List ℕ) (b pattern : Bytes) (from place : ℕ) (name : Bytes) : Type 0 where
+  pub below : place < count_word w
+  pub named : name ≡ (version_at w b place).key
+  pub first : matching pattern (rest w b from) ≡ entry_at w b place ∷ matching pattern (rest w b (place + 1))
+
+-- its place and its name, or none
+abbrev pub MatchFrom : List ℕ → Bytes → Bytes → ℕ → Option (ℕ × Bor Bytes) → Type 0
+MatchFrom w b pattern from None = matching pattern (rest w b from) ≡ []
+MatchFrom w b pattern from (Some found) = MatchAt w b pattern from found.0 found.1.now
 
 -- SCAN's cursor before these entries: 0 where there are none
 unfoldable pub cursor_before : Table → ℕ → ℕ

@@ -44,9 +44,7 @@ fn then_pair(out: &mut [u8], put: Option<usize>, name: &[u8], value: &[u8]) -> O
     ensures { Adds (encode (BulkString name.now) ++ encode (BulkString value.now)) put out.old result out.new }
 {
     let line = resp_items::then_bulk(out, put, name);
-    let Some(_) = line else {
-        return None;
-    };
+    line?;
     resp_items::then_bulk(out, line, value)
 }
 
@@ -58,9 +56,7 @@ fn put_pairs(out: &mut [u8], store: &Store, from: usize, count: u64) -> Option<u
     let mut put = reply::put_head(out, b'*', 2 * count);
     let mut i = from;
     for _written in 0..count {
-        let Some(_) = put else {
-            return None;
-        };
+        put?;
         let Some(j) = store.next_live(i) else {
             return put;
         };

@@ -5,11 +5,10 @@ ghost use Rattle.resp_spec.specs.Reply.{encode};
 ghost use Rattle.store_memtable.specs.Versions.{table};
 ghost use Rattle.store_memtable.specs.Reading.{versions_of};
 ghost use Rattle.command_spec.specs.Command.{SCAN, answer_listing};
-ghost use Rattle.command_spec.specs.GlobWalk.{LastStar};
 ghost use Rattle.command_listing.specs.Rest.{rest_of, matching, keys_reply, cursor_before};
 
 use crate::keys;
-use command_spec::pattern::Last;
+use command_glob::Pattern;
 use resp_encode::reply;
 use store_memtable::store::Store;
 
@@ -43,17 +42,15 @@ fn then_matches(
     out: &mut [u8],
     put: Option<usize>,
     store: &Store,
-    pattern: &[u8],
-    last: Last,
+    pattern: &Pattern,
     from: usize,
     count: u64,
 ) -> Option<usize>
-    requires last_star { LastStar pattern.now last.behind last.count }
-    requires count_in_bounds { count ≤ length (matching pattern.now (rest_of store.now from)) }
-    ensures { Adds (encode (keys_reply (take count (matching pattern.now (rest_of store.now from))))) put out.old result out.new }
+    requires count_in_bounds { count ≤ length (matching pattern.now.bytes.now (rest_of store.now from)) }
+    ensures { Adds (encode (keys_reply (take count (matching pattern.now.bytes.now (rest_of store.now from))))) put out.old result out.new }
 {
     let at = base_writing::place(put, out.len());
-    let next = keys::put_matches(&mut out[at..], store, pattern, last, from, count);
+    let next = keys::put_matches(&mut out[at..], store, pattern, from, count);
     base_writing::joined(out, put, next)
 }
 
@@ -67,14 +64,12 @@ pub fn put_scan(
 ) -> Option<usize>
     ensures { Puts (encode (answer_listing (table (versions_of store.now)) (SCAN from pattern.now most))) out.old result out.new }
 {
-    let last = command_glob::last_star(pattern);
+    let pattern = Pattern::new(pattern);
     let at = skip(store, from);
-    let seen = keys::count_matches(store, pattern, last, at, most);
+    let seen = keys::count_matches(store, &pattern, at, most);
     let follows = cursor(store, seen.next, from, most);
     let head = reply::put_head(out, b'*', 2);
     let line = resp_items::then_bulk_digits(out, head, follows);
-    let Some(_) = line else {
-        return None;
-    };
-    then_matches(out, line, store, pattern, last, at, seen.matched)
+    line?;
+    then_matches(out, line, store, &pattern, at, seen.matched)
 }

@@ -1,5 +1,5 @@
 -- Laws of walks over the arguments of a command: how many of them are live keys. Assumes nothing.
-use Prim.Native.Nat.{ℕ, suc, ◌+◌, ◌-◌, ◌*◌, ◌≤◌, ◌<◌}
+use Prim.Native.Nat.{ℕ, suc, ◌+◌, ◌-◌, ◌≤◌, ◌<◌}
 use native.Mathlib.Omega.{arith}
 use mathlib.Core.Path.{◌≡◌, refl, sym, ap, ◌∙◌}
 use mathlib.Core.Bool.{Bool, true, false}
@@ -10,11 +10,10 @@ use Rattle.base_key.specs.Bytes.{Bytes}
 use Rattle.base_key.specs.Keys.{Key}
 use Rattle.store_memtable.specs.Table.{Value, Reader}
 use Rattle.store_memtable.specs.Walk.{is_live}
-use Rattle.group_spec.specs.Settling.{key_part}
-use Rattle.command_spec.specs.Command.{live_one, live}
+use Rattle.command_spec.specs.Command.{argument, live_one, live}
 use Rattle.command_spec.specs.Places.{arguments_at}
-use Rattle.command_spec.proofs.PlaceLaws.{arguments_count, arguments_next, arguments_end}
-use Rattle.command_lookup.specs.See.{CountsOne}
+use Rattle.command_spec.proofs.PlaceLaws.{argument_is, arguments_count, arguments_next, arguments_end}
+use Rattle.std.specs.Int.{from_bool}
 
 -- no more keys are live than there are
 pub live_few : (r : Reader) (ks : List Key) → live r ks ≤ length ks
@@ -29,21 +28,13 @@ live_few r (k ∷ ks) = go (r k) (live_few r ks)
 pub live_within : (r : Reader) (from n : ℕ) (places : List ℕ) (input : Bytes) → live r (arguments_at from n places input) ≤ n
 live_within r from n places input = omega (arith, live_few r (arguments_at from n places input), arguments_count from n places input)
 
--- one key
-module _ (r : Reader) (k : Key) {t : Bool} (is : t ≡ is_live (r k)) where
-  one_live : (x : Option Value) → t ≡ is_live x → t ≡ true → 1 ≡ live_one x
-  one_live None e l = let z : ◌≡◌ {A = ℕ} 0 1 = cc in absurd (omega arith)
-  one_live (Some v) e l = refl
+one_live : (x : Option Value) → from_bool (is_live x) ≡ live_one x
+one_live None = refl
+one_live (Some v) = refl
 
-  one_absent : (x : Option Value) → t ≡ is_live x → t ≡ false → 0 ≡ live_one x
-  one_absent None e l = refl
-  one_absent (Some v) e l = let z : ◌≡◌ {A = ℕ} 0 1 = cc in absurd (omega arith)
-
-  pub counts_live : t ≡ true → CountsOne r k 1
-  counts_live l = record { is = one_live (r k) is l; small = omega arith }
-
-  pub counts_absent : t ≡ false → CountsOne r k 0
-  counts_absent l = record { is = one_absent (r k) is l; small = omega arith }
+one_small : (t : Bool) → from_bool t ≤ 1
+one_small true = omega arith
+one_small false = omega arith
 
 -- `count` of the keys from place `from` up to i are live
 pub record Counting (r : Reader) (places : List ℕ) (input : Bytes) (from to i count : ℕ) : Type 0 where
@@ -52,21 +43,19 @@ pub record Counting (r : Reader) (places : List ℕ) (input : Bytes) (from to i 
   pub few : count ≤ i - from
   pub rest : live r (arguments_at from (to - from) places input) ≡ count + live r (arguments_at i (to - i) places input)
 
-pub counting_none : (r : Reader) (places : List ℕ) (input : Bytes) {from to : ℕ} → from ≤ to → Counting r places input from to from 0
-counting_none r places input {from} {to} h = record { begun = omega arith; within = h; few = omega arith; rest = omega arith }
-
 module _ {r : Reader} {places : List ℕ} {input : Bytes} {from to i count : ℕ} (g : Counting r places input from to i count) where
-  pub counting_more : {one : ℕ} (k : Key) → i < to → k ≡ key_part places input (2 * i) → CountsOne r k one → Counting r places input from to (i + 1) (count + one)
+  pub counting_more : {t : Bool} {one : ℕ} (k : Key) → i < to → k ≡ argument i (arguments_at 0 to places input) → t ≡ is_live (r k) → one ≡ from_bool t → Counting r places input from to (i + 1) (count + one)
   unfolding live
-  counting_more {one} k h k-is o =
-      let next : live r (arguments_at i (to - i) places input) ≡ one + live r (arguments_at (i + 1) (to - (i + 1)) places input) =
+  counting_more {t} k h k-is t-is one-is =
+      let next : live r (arguments_at i (to - i) places input) ≡ from_bool t + live r (arguments_at (i + 1) (to - (i + 1)) places input) =
       ap (live r) (arguments_next places input h)
-      ∙ ap (λ (m : ℕ). m + live r (arguments_at (i + 1) (to - (i + 1)) places input)) (sym (o.is ∙ ap (λ (x : Key). live_one (r x)) k-is)) in
+      ∙ ap (λ (m : ℕ). m + live r (arguments_at (i + 1) (to - (i + 1)) places input))
+      (sym (ap from_bool t-is ∙ one_live (r k) ∙ ap (λ (x : Key). live_one (r x)) (k-is ∙ sym (argument_is places input to i h refl)))) in
       record {
         begun = omega (arith, g.begun);
         within = omega arith;
-        few = omega (arith, g.begun, g.few, o.small);
-        rest = omega (arith, g.rest, next);
+        few = omega (arith, g.begun, g.few, one-is, one_small t);
+        rest = omega (arith, g.rest, one-is, next);
       }
 
   pub counting_all : to ≤ i → count ≡ live r (arguments_at from (to - from) places input)

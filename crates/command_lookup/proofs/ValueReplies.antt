@@ -1,5 +1,5 @@
 -- Laws of the replies that hold values: a value or nil, and an array of them. Assumes nothing.
-use Prim.Native.Nat.{ℕ, suc, ◌+◌, ◌-◌, ◌*◌, ◌≤◌, ◌<◌}
+use Prim.Native.Nat.{ℕ, suc, ◌+◌, ◌-◌, ◌≤◌, ◌<◌}
 use native.Mathlib.Omega.{arith}
 use mathlib.Core.Path.{◌≡◌, refl, sym, ap, ◌∙◌}
 use mathlib.Core.List.{List, [], ◌∷◌}
@@ -8,11 +8,11 @@ use Rattle.base_key.specs.Bytes.{Bytes}
 use Rattle.base_key.specs.Keys.{Key}
 use Rattle.base_writing.specs.Puts.{Puts, Adds}
 use Rattle.resp_spec.specs.Reply.{head, encode, array, bulk_or}
-use Rattle.resp_encode.proofs.Replies.{Listed, listed_none, listed_more, listed_full, listed_all}
+use Rattle.resp_encode.proofs.Replies.{Listed, listed_more, listed_full, listed_all}
 use Rattle.store_memtable.specs.Table.{Reader}
-use Rattle.group_spec.specs.Settling.{key_part}
-use Rattle.command_spec.specs.Places.{arguments_at}
-use Rattle.command_spec.proofs.PlaceLaws.{arguments_count, arguments_next, arguments_end}
+use Rattle.command_spec.specs.Command.{argument}
+use Rattle.command_spec.specs.Places.{argument_at, arguments_at}
+use Rattle.command_spec.proofs.PlaceLaws.{argument_is, arguments_count, arguments_next, arguments_end}
 use Rattle.command_lookup.specs.See.{value_replies}
 use Rattle.std.specs.Prelude.{Option, None}
 
@@ -26,23 +26,21 @@ pub record ValuesFrom (r : Reader) (places : List ℕ) (input : Bytes) (from to 
   pub within : i ≤ to
   pub listed : Listed (value_replies r (arguments_at from (to - from) places input)) (value_replies r (arguments_at i (to - i) places input)) put entry after out
 
-pub values_none : (r : Reader) (places : List ℕ) (input : Bytes) {from to : ℕ} (put : Option ℕ) (entry : Bytes) → from ≤ to → ValuesFrom r places input from to from put entry put entry
-values_none r places input {from} {to} put entry h = record { within = h; listed = listed_none (value_replies r (arguments_at from (to - from) places input)) put entry }
-
 module _ {r : Reader} {places : List ℕ} {input : Bytes} {from to i : ℕ} {put next : Option ℕ} {entry mid : Bytes} (g : ValuesFrom r places input from to i put entry next mid) where
-  pub values_more : (k : Key) {after : Option ℕ} {exit : Bytes} → i < to → k ≡ key_part places input (2 * i) → Adds (encode (bulk_or (r k))) next mid after exit → ValuesFrom r places input from to (i + 1) put entry after exit
+  pub values_more : (k : Key) {after : Option ℕ} {exit : Bytes} → i < to → k ≡ argument i (arguments_at 0 to places input) → Adds (encode (bulk_or (r k))) next mid after exit → ValuesFrom r places input from to (i + 1) put entry after exit
   values_more k h k-is a =
       let e : value_replies r (arguments_at i (to - i) places input) ≡ bulk_or (r k) ∷ value_replies r (arguments_at (i + 1) (to - (i + 1)) places input) =
       ap (value_replies r) (arguments_next places input h)
-      ∙ ap (λ (x : Key). bulk_or (r x) ∷ value_replies r (arguments_at (i + 1) (to - (i + 1)) places input)) (sym k-is) in
+      ∙ ap (λ (x : Key). bulk_or (r x) ∷ value_replies r (arguments_at (i + 1) (to - (i + 1)) places input)) (sym (k-is ∙ sym (argument_is places input to i {r = argument_at i places input} h refl))) in
       record { within = omega arith; listed = listed_more (bulk_or (r k)) (rw (← e) g.listed) a }
 
   counted : to - from ≡ length (value_replies r (arguments_at from (to - from) places input))
   counted = sym (replies_long r (arguments_at from (to - from) places input) ∙ arguments_count from (to - from) places input)
 
   module _ {start : Bytes} (p : Puts (head 42 (to - from)) start put entry) where
-    pub values_full : next ≡ None → Puts (encode (array (value_replies r (arguments_at from (to - from) places input)))) start None mid
-    values_full told = listed_full (value_replies r (arguments_at from (to - from) places input)) counted p (value_replies r (arguments_at i (to - i) places input)) g.listed told
+    pub values_full : next ≡ None → {last : Option ℕ} → last ≡ None → Puts (encode (array (value_replies r (arguments_at from (to - from) places input)))) start last mid
+    values_full told e =
+        rw e (listed_full (value_replies r (arguments_at from (to - from) places input)) counted p (value_replies r (arguments_at i (to - i) places input)) g.listed told)
 
     pub values_all : to ≤ i → Puts (encode (array (value_replies r (arguments_at from (to - from) places input)))) start next mid
     values_all h =

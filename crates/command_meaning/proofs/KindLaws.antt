@@ -6,7 +6,7 @@ use mathlib.Core.Path.{◌≡◌, refl, sym, ap, ◌∙◌, subst}
 use mathlib.Core.Bool.{Bool, true, false, cond, not, ◌&&◌, ◌||◌, false≢true}
 use mathlib.Core.List.{List, [], ◌∷◌, map}
 use Rattle.std.specs.Prelude.{Some}
-use borrow.Author.Tests.{leb-true, ltb-false, eqb-true, eq-eqb, ne_eqb}
+use borrow.Author.Tests.{leb-true, ltb-false, eqb-true, eq-eqb, ne_eqb, not-true}
 use lib.Dec.{leb, eqb}
 use lib.IntN.{ℤ, pos, negsuc}
 use lib.Signed.{mag}
@@ -207,10 +207,6 @@ pub place_of : (row : CodeRow) {word : Bytes} → Looked word row → row_at (ro
 unfolding row_of
 place_of row {word} looked = ap placed looked.is ∙ place_in rows word place_right ∙ sym looked.is
 
-off : (b : Bool) → not b ≡ true → b ≡ false
-off false e = refl
-off true e = absurd (false≢true e)
-
 module _ (a : Args) {count : ℕ} {row : CodeRow} (l : length a ≡ count) {w : Bytes} (w-is : w ≡ argument 0 a) (looked : Looked w row)
     (may : request_queueable a ≡ true) where
   here : row_meant row ≡ row_of (name_word a)
@@ -240,7 +236,7 @@ module _ (a : Args) {count : ℕ} {row : CodeRow} (l : length a ≡ count) {w : 
     unfolding may_queue
     queued_plain =
         ap (λ (x : Operation). with_options x (count - 1)) o_is
-        ∙ off _ (both_parts (row.queueable && count_right (row_meant row) (count - 1)) (not (with_options (operation_of row.name) (count - 1))) may_here).1
+        ∙ not-true _ (both_parts (row.queueable && count_right (row_meant row) (count - 1)) (not (with_options (operation_of row.name) (count - 1))) may_here).1
 
 -- THE ARGUMENT COUNT of each kind
 module _ {k : Kind} {count : ℕ} (h : KindCounted k count) where

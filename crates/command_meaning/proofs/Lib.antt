@@ -1,5 +1,4 @@
 -- The laws of this crate.
-pub mod AmountLaws
 pub mod KindLaws
 pub mod NameLaws
 pub mod OptionLaws

@@ -97,9 +97,6 @@ module _ (row : CodeRow) (n : ℕ) where
   pub right_named : {w : Bytes} → Looked w row → {b : Bool} → b ≡ count_right (row_meant row) n → b ≡ true → count_right (row_at (row_place row.name)) n ≡ true
   right_named looked b-is e = ap (λ (r : Row). count_right r n) (place_of row looked) ∙ sym b-is ∙ e
 
-  pub plain_named : {b : Bool} → b ≡ with_options (operation_of row.name) n → b ≡ false → with_options (operation_of row.name) n ≡ false
-  plain_named b-is e = sym b-is ∙ e
-
 executed_as_lem : (a : Args) {r : Row} {n : ℕ} {b : Bool} → row_of (name_word a) ≡ r → length (arguments a) ≡ n → count_right r n ≡ b
     → executed_of a ≡ cond b (executed_as r.name (name_word a) (arguments a)) (fixed (arity r))
 unfolding executed_of

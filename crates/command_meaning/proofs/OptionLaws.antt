@@ -22,7 +22,7 @@ use Rattle.command_meaning.specs.declared.Executed.{Executed as CodeExecuted}
 use Rattle.command_meaning.specs.declared.Executed.TheVariants.{Lists, Refused}
 use Rattle.command_meaning.specs.declared.options.ScanOption.{ScanOption}
 use Rattle.command_meaning.specs.declared.options.ScanOption.TheVariants.{Match, Count, Wrong}
-use Rattle.command_meaning.specs.Meant.{pattern_at, listing_meant, refusal_reply, executed_meant, ListingCounted, Counted}
+use Rattle.command_meaning.specs.Meant.{pattern_at, PatternCounted, listing_meant, refusal_reply, executed_meant, ListingCounted, Counted}
 use Rattle.command_meaning.specs.Reading.{MeansAs, scan_step, OptionIs, ScanIs}
 use Rattle.std.specs.Prelude.{ℤ}
 
@@ -96,32 +96,28 @@ module _ (a : Args) (i : ℕ) {count : ℕ} (l : length a ≡ count) (h : i + 1 
       count_here {z} e = record { is = λ from pattern most. counted_as from pattern most (Some z) (sym e) }
 
 -- THE OPTIONS OF SCAN: those before argument i are read.
-pub record Scanning (a : Args) (count from i pattern most : ℕ) : Type 0 where
+pub record Scanning (a : Args) (count from i : ℕ) (pattern : Option ℕ) (most : ℕ) : Type 0 where
   pub within : i ≤ count
-  pub inside : pattern < count
+  pub inside : PatternCounted pattern count
   pub is : scan_options from (bytes "*") 10 (drop 2 a) ≡ scan_options from (pattern_at pattern a) most (drop i a)
 
-pub scanning_none : (a : Args) (count from : ℕ) → 2 ≤ count → Scanning a count from 2 0 10
-unfolding pattern_at
+pub scanning_none : (a : Args) (count from : ℕ) → 2 ≤ count → Scanning a count from 2 None 10
+unfolding pattern_at PatternCounted
 scanning_none a count from h = record { within = h; inside = omega arith; is = refl }
 
-pattern_behind : (i : ℕ) (a : Args) → argument (i + 1) a ≡ pattern_at (i + 1) a
-unfolding pattern_at
-pattern_behind i a = ap (λ (n : ℕ). argument n a) (add-one i) ∙ ap (λ (n : ℕ). pattern_at n a) (sym (add-one i))
-
-module _ {a : Args} {count from i pattern most : ℕ} (s : Scanning a count from i pattern most) where
+module _ {a : Args} {count from i : ℕ} {pattern : Option ℕ} {most : ℕ} (s : Scanning a count from i pattern most) where
   module _ {r : ScanOption} (o : OptionIs a i r) (h : i + 1 < count) where
     stepped : {r' : ScanOption} → r ≡ r' → scan_options from (bytes "*") 10 (drop 2 a) ≡ scan_step r' from (pattern_at pattern a) most (argument (i + 1) a) (drop (i + 2) a)
     stepped e = s.is ∙ o.is from (pattern_at pattern a) most ∙ ap (λ (r : ScanOption). scan_step r from (pattern_at pattern a) most (argument (i + 1) a) (drop (i + 2) a)) e
 
-    pub scanning_match : {j : ℕ} → j ≡ i + 2 → r ≡ Match → Scanning a count from j (i + 1) most
-    unfolding scan_step
+    pub scanning_match : {j : ℕ} → j ≡ i + 2 → r ≡ Match → Scanning a count from j (Some (i + 1)) most
+    unfolding scan_step pattern_at PatternCounted
     scanning_match j-is e =
         rw j-is
         (record {
           within = omega (arith, s.within);
           inside = omega (arith, s.within);
-          is = stepped e ∙ ap (λ (v : Bytes). scan_options from v most (drop (i + 2) a)) (pattern_behind i a);
+          is = stepped e;
         })
 
     pub scanning_count : {j n : ℕ} → j ≡ i + 2 → r ≡ Count n → Scanning a count from j pattern n
@@ -169,7 +165,7 @@ module _ (a : Args) {count : ℕ} (least : 2 ≤ count) {x : Bytes} (x-is : x �
   cursor_here {from} e s = record { is = cursor_is {w = Some from} (sym e) ∙ s.is; counted = s.counted }
 
 -- RANGE, by its argument count.
-range_alone : (a : Args) → length a ≡ 3 → executed_as Range (name_word a) (arguments a) ≡ executed_meant Range (Lists listing.Range) a
+range_alone : (a : Args) → length a ≡ 3 → executed_as Range (name_word a) (arguments a) ≡ executed_meant Range (Lists (listing.Range None)) a
 unfolding executed_as range_options executed_meant listing_meant
 range_alone [] h = absurd (omega arith)
 range_alone (n ∷ []) h = absurd (omega arith)
@@ -200,7 +196,7 @@ range_five (n ∷ s ∷ e ∷ o ∷ v ∷ []) h = refl
 range_five (n ∷ s ∷ e ∷ o ∷ v ∷ x ∷ a) h = absurd (omega arith)
 
 module _ (a : Args) {count : ℕ} (l : length a ≡ count) where
-  pub no_limit : count ≡ 3 → MeansAs Range a count (Lists listing.Range)
+  pub no_limit : count ≡ 3 → MeansAs Range a count (Lists (listing.Range None))
   unfolding Counted ListingCounted
   no_limit e = record { is = range_alone a (l ∙ e); counted = omega arith }
 
@@ -230,6 +226,6 @@ module _ (a : Args) {count : ℕ} (l : length a ≡ count) where
       unfolding executed_meant refusal_reply fixed_reply Counted
       bad_limit e = record { is = limit_as {w = None} (sym e); counted = tt }
 
-      pub limit_here : {most : ℕ} → o ≡ Some most → MeansAs Range a count (Lists (listing.RangeUpTo most))
+      pub limit_here : {most : ℕ} → o ≡ Some most → MeansAs Range a count (Lists (listing.Range (Some most)))
       unfolding executed_meant listing_meant Counted ListingCounted
       limit_here {most} e = record { is = limit_as {w = Some most} (sym e); counted = omega arith }

@@ -2,4 +2,3 @@
 pub mod Kinds
 pub mod Meant
 pub mod Reading
-pub mod Requests

@@ -1,6 +1,6 @@
 -- What the code's answers mean: the commands of `Command.antt` of the crate `command_spec`, over the whole list of arguments with the name in front.
-use Rattle.std.specs.Prelude.{ℕ, zero, suc, ◌<◌, ◌≤◌, ◌≡◌}
-use Rattle.std.specs.Prelude.{None, Some}
+use Rattle.std.specs.Prelude.{ℕ, ◌<◌, ◌≤◌, ◌≡◌}
+use Rattle.std.specs.Prelude.{Option, None, Some}
 use Rattle.base_key.specs.Bytes.{Bytes, bytes}
 use Rattle.resp_spec.specs.Reply.{Reply}
 use Rattle.command_spec.specs.declared.Name.{Name}
@@ -15,18 +15,17 @@ use Rattle.command_meaning.specs.declared.Executed.{Executed as CodeExecuted}
 use Rattle.command_meaning.specs.declared.Executed.TheVariants.{Runs, Lists, Refused}
 use Rattle.command_meaning.specs.Kinds.{KindIs}
 
--- SCAN's pattern: the argument of this place, and `*` for place 0
-unfoldable pub pattern_at : ℕ → Args → Bytes
-pattern_at zero a = bytes "*"
-pattern_at (suc k) a = argument (suc k) a
+-- SCAN's pattern: the argument of this place, and `*` for no place
+unfoldable pub pattern_at : Option ℕ → Args → Bytes
+pattern_at None a = bytes "*"
+pattern_at (Some k) a = argument k a
 
 -- a command that lists the table
 unfoldable pub listing_meant : CodeListing → Args → Listing
 listing_meant listing.Dbsize a = DBSIZE
 listing_meant listing.Keys a = KEYS (argument 1 a)
 listing_meant (listing.Scan from pattern most) a = SCAN from (pattern_at pattern a) most
-listing_meant listing.Range a = RANGE (argument 1 a) (argument 2 a) None
-listing_meant (listing.RangeUpTo n) a = RANGE (argument 1 a) (argument 2 a) (Some n)
+listing_meant (listing.Range limit) a = RANGE (argument 1 a) (argument 2 a) limit
 
 -- the error of a request that is not carried out
 unfoldable pub refusal_reply : Refusal → Args → Reply
@@ -40,13 +39,17 @@ executed_meant name (Runs k) a = runs (command_as (operation_of name) (arguments
 executed_meant name (Lists l) a = lists (listing_meant l a)
 executed_meant name (Refused f) a = fixed (refusal_reply f a)
 
+-- the argument that holds the pattern, if one does, is there
+unfoldable pub PatternCounted : Option ℕ → ℕ → Type 0
+PatternCounted None count = 0 < count
+PatternCounted (Some k) count = k < count
+
 -- the argument count, the name counted, of a listing
 unfoldable pub ListingCounted : CodeListing → ℕ → Type 0
 ListingCounted listing.Dbsize count = 1 ≤ count
 ListingCounted listing.Keys count = count ≡ 2
-ListingCounted (listing.Scan from pattern most) count = pattern < count
-ListingCounted listing.Range count = 3 ≤ count
-ListingCounted (listing.RangeUpTo n) count = 3 ≤ count
+ListingCounted (listing.Scan from pattern most) count = PatternCounted pattern count
+ListingCounted (listing.Range limit) count = 3 ≤ count
 
 -- the argument count of a listing, and what a command that runs does
 unfoldable pub Counted : Name → CodeExecuted → Args → ℕ → Type 0

@@ -1,6 +1,5 @@
 -- The steps in which the code reads a request.
 use Rattle.std.specs.Prelude.{ℕ, ◌+◌, ◌≡◌, length, drop}
-use Rattle.std.specs.Prelude.{Option, None, Some}
 use Rattle.base_key.specs.Bytes.{Bytes, bytes}
 use Rattle.command_spec.specs.declared.Operation.{Operation}
 use Rattle.command_spec.specs.declared.Operation.TheVariants.{Get, Set, Del, Exists, Mget, Mset, Incr, Incrby, Decr, Ping, Echo}

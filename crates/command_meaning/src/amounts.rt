@@ -6,18 +6,12 @@ ghost use Rattle.command_spec.specs.Command.{natural, positive};
 pub fn natural(n: Option<i64>) -> Option<u64>
     ensures { result ≡ natural n }
 {
-    match n {
-        Some(value) if 0 <= value => Some(value as u64),
-        _ => None,
-    }
+    u64::try_from(n?).ok()
 }
 
 // A number from 1 on.
 pub fn positive(n: Option<i64>) -> Option<u64>
     ensures { result ≡ positive n }
 {
-    match natural(n) {
-        Some(value) if 0 < value => Some(value),
-        _ => None,
-    }
+    natural(n).filter(|value| 0 < *value)
 }

@@ -5,13 +5,13 @@ ghost use Rattle.command_spec.specs.declared.Name.TheVariants.{Queueable};
 ghost use Rattle.command_spec.specs.Names.{count_right, with_options, request_queueable};
 ghost use Rattle.command_spec.specs.Command.{request_operation};
 ghost use Rattle.command_names.specs.Rows.{row_at};
-ghost use Rattle.command_meaning.specs.Requests.{arguments_of};
+ghost use Rattle.command_spec.specs.Requests.{arguments_of};
 ghost use Rattle.command_meaning.specs.Kinds.{KindIs};
 ghost use Rattle.command_meaning.specs.Reading.{row_place, KindFor};
 
-use crate::arguments::Request;
 use crate::{Kind, Read};
 use base_number::integer;
+use command_spec::request::Request;
 use command_spec::{Fixed, Operation};
 
 // PING, alone or with an argument.

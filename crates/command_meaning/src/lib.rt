@@ -2,19 +2,18 @@
 #![tactic(auto)]
 
 pub mod amounts;
-pub mod arguments;
 pub mod kinds;
 pub mod options;
 
 ghost use Rattle.std.specs.Prelude.{◌≡◌, true, false, ◌-◌, ◌≤◌};
-ghost use Rattle.command_spec.specs.Names.{name_word, count_right, with_options, operation_of};
-ghost use Rattle.command_names.specs.Rows.{row_at, Looked};
-ghost use Rattle.command_meaning.specs.Requests.{arguments_of};
+ghost use Rattle.command_spec.specs.Names.{count_right, with_options, operation_of};
+ghost use Rattle.command_names.specs.Rows.{row_at};
+ghost use Rattle.command_spec.specs.Requests.{arguments_of};
 ghost use Rattle.command_meaning.specs.Meant.{ExecutedIs};
 ghost use Rattle.command_meaning.specs.Reading.{row_place, MeansAs};
 
-use arguments::Request;
-use command_names::Row;
+use command_names::named::NamedRequest;
+use command_spec::request::Request;
 use command_spec::{Fixed, Name};
 
 // A command that lists the table.
@@ -22,10 +21,14 @@ use command_spec::{Fixed, Name};
 pub enum Listing {
     Dbsize,
     Keys,
-    // A cursor, the argument that holds the pattern (0: the pattern is `*`), and the count.
-    Scan(u64, usize, u64),
-    Range,
-    RangeUpTo(u64),
+    Scan {
+        from: u64,
+        // The argument that holds the pattern, which is `*` where none does.
+        pattern: Option<usize>,
+        most: u64,
+    },
+    // At most so many, where there is a limit.
+    Range(Option<u64>),
 }
 
 // A command that only answers: which reply.
@@ -66,8 +69,8 @@ pub enum Executed {
     Refused(Refusal),
 }
 
-// The command of a name, for a right argument count and no options.
-fn named(name: Name, request: &Request) -> Executed
+// What a name means, for a right argument count and no options.
+fn meaning_of(name: Name, request: &Request) -> Executed
     requires le_count { 1 ≤ request.now.count }
     requires count_value { count_right (row_at (row_place name)) (request.now.count - 1) ≡ true }
     requires count_value_2 { with_options (operation_of name) (request.now.count - 1) ≡ false }
@@ -84,16 +87,15 @@ fn named(name: Name, request: &Request) -> Executed
 }
 
 // What a request means, by the row of its name.
-pub fn executed_of(row: Row, request: &Request) -> Executed
-    requires le_count { 1 ≤ request.now.count }
-    requires looked { Looked (name_word (arguments_of request.now)) row }
-    ensures { ExecutedIs (arguments_of request.now) request.now.count result }
+pub fn executed_of(named: &NamedRequest) -> Executed
+    ensures { ExecutedIs (arguments_of named.now.request) named.now.request.count result }
 {
-    if !command_names::count_right(row, request.count - 1) {
+    let request = &named.request;
+    if !command_names::count_right(named.row, request.count - 1) {
         return Executed::Refused(Refusal::Arity);
     }
-    if command_names::with_options(row, request.count - 1) {
+    if command_names::with_options(named.row, request.count - 1) {
         return Executed::Refused(Refusal::Says(Fixed::SetOptions));
     }
-    named(row.name, request)
+    meaning_of(named.row.name, request)
 }

@@ -1,13 +1,13 @@
 // SCAN and RANGE with their options.
 ghost use Rattle.std.specs.Prelude.{◌+◌, ◌≤◌, ◌<◌};
 ghost use Rattle.command_spec.specs.declared.Name.TheVariants.{Scan, Range};
-ghost use Rattle.command_meaning.specs.Requests.{arguments_of};
+ghost use Rattle.command_spec.specs.Requests.{arguments_of};
 ghost use Rattle.command_meaning.specs.Reading.{MeansAs, OptionIs, ScanIs};
 
-use crate::arguments::Request;
 use crate::{Executed, Listing, Refusal, amounts};
 use base_number::integer;
 use command_spec::Fixed;
+use command_spec::request::Request;
 
 // An option of SCAN with its value: MATCH, COUNT with its number, or an error.
 #[derive(Clone, Copy)]
@@ -41,12 +41,12 @@ fn scan_options(request: &Request, from: u64) -> Executed
     requires le_count { 2 ≤ request.now.count }
     ensures { ScanIs (arguments_of request.now) request.now.count from result }
 {
-    let mut pattern: usize = 0;
+    let mut pattern: Option<usize> = None;
     let mut most: u64 = 10;
     for pair in 1..request.count / 2 {
         let i = 2 * pair;
         match scan_option(request, i) {
-            ScanOption::Match => pattern = i + 1,
+            ScanOption::Match => pattern = Some(i + 1),
             ScanOption::Count(n) => most = n,
             ScanOption::Wrong(error) => return Executed::Refused(Refusal::Says(error)),
         }
@@ -54,7 +54,11 @@ fn scan_options(request: &Request, from: u64) -> Executed
     if request.count % 2 == 1 {
         return Executed::Refused(Refusal::Says(Fixed::Syntax));
     }
-    Executed::Lists(Listing::Scan(from, pattern, most))
+    Executed::Lists(Listing::Scan {
+        from,
+        pattern,
+        most,
+    })
 }
 
 // SCAN: its cursor is argument 1.
@@ -75,7 +79,7 @@ pub fn range(request: &Request) -> Executed
     ensures { MeansAs Range (arguments_of request.now) request.now.count result }
 {
     if request.count == 3 {
-        return Executed::Lists(Listing::Range);
+        return Executed::Lists(Listing::Range(None));
     }
     if request.count != 5 || !command_names::same(request.argument(3), b"LIMIT") {
         return Executed::Refused(Refusal::Says(Fixed::Syntax));
@@ -84,5 +88,5 @@ pub fn range(request: &Request) -> Executed
     let Some(most) = amounts::natural(value) else {
         return Executed::Refused(Refusal::Says(Fixed::BadLimit));
     };
-    Executed::Lists(Listing::RangeUpTo(most))
+    Executed::Lists(Listing::Range(Some(most)))
 }

@@ -15,7 +15,7 @@ use Rattle.command_spec.specs.Names.{Row, rows, unknown_row, row_in, row_of, sam
 use Rattle.resp_spec.specs.Letters.{upper}
 use Rattle.command_names.specs.declared.Row.{Row as CodeRow}
 use Rattle.command_names.specs.Rows.{row_at, row_meant, TableRight, Looked}
-use Rattle.command_names.proofs.RowLaws.{row_is, width, how_many, table_long}
+use Rattle.command_names.proofs.RowLaws.{row_is, how_many, table_long}
 
 -- a name of another length is another name
 pub other_length : (w n : Bytes) → (length w ≡ length n → ⊥) → false ≡ same_name w n
@@ -56,10 +56,7 @@ module _ {table : List CodeRow} {w : Bytes} {k : ℕ} (d : CodeRow) (p : Passed 
     here : row_meant (get_or (take 21 table) k d) ≡ row_at k
     here = ap row_meant (get_or-take 21 table k d low) ∙ row_is p.right d (omega (arith, low))
 
-    pub fits_here : (get_or (take 21 table) k d).length ≤ length (get_or (take 21 table) k d).text
-    fits_here = rw (get_or-take 21 table k d low) (width p.right d (omega (arith, low)))
-
-    module _ {b : Bool} (is : b ≡ same_name w (take (get_or (take 21 table) k d).length (get_or (take 21 table) k d).text)) where
+    module _ {b : Bool} (is : b ≡ same_name w (get_or (take 21 table) k d).text.now) where
       same_row : b ≡ same_name w (row_at k).text
       same_row = is ∙ ap (λ (r : Row). same_name w r.text) here
 

@@ -1,13 +1,10 @@
 -- A row of the code's table by its place, from the rule of the whole table. Assumes nothing.
 use mathlib.Core.Path.{◌≡◌, refl, sym, ap, ◌∙◌}
-use mathlib.Core.Bool.{Bool, true}
 use mathlib.Core.List.{List, [], ◌∷◌, ◌++◌, map}
-use Prim.Native.Nat.{ℕ, zero, suc, ◌<◌, ◌≤◌}
+use Prim.Native.Nat.{ℕ, zero, suc, ◌<◌}
 use native.Mathlib.Nat.{not-suc-le-zero, le_of_suc-le-suc}
 use native.Mathlib.Omega.{arith}
-use borrow.Author.Tests.{leb-true}
-use lib.Dec.{leb}
-use lib.ListN.{length, get_or, replicate, get_or-map, length-map}
+use lib.ListN.{length, get_or, get_or-map, length-map}
 use Rattle.command_spec.specs.Names.{Row, rows, unknown_row}
 use Rattle.command_names.specs.declared.Row.{Row as CodeRow}
 use Rattle.command_names.specs.Rows.{row_at, row_meant, TableRight}
@@ -28,11 +25,6 @@ any_default [] i d e h = absurd (not-suc-le-zero h)
 any_default (x ∷ l) zero d e h = refl
 any_default (x ∷ l) (suc i) d e h = any_default l i d e (le_of_suc-le-suc h)
 
-all_true : (n i : ℕ) → get_or (replicate n true) i true ≡ true
-all_true zero i = refl
-all_true (suc n) zero = refl
-all_true (suc n) (suc i) = all_true n i
-
 pub table_long : {table : List CodeRow} → TableRight table → length table ≡ 22
 unfolding rows
 table_long {table} t = sym (length-map table row_meant) ∙ ap length t.meant
@@ -46,10 +38,3 @@ module _ {table : List CodeRow} (t : TableRight table) (d : CodeRow) {k : ℕ} (
   row_is =
       sym (get_or-map row_meant table k d) ∙ any_default (map row_meant table) k (row_meant d) unknown_row (omega (arith, inside, length-map table row_meant))
       ∙ ap (λ (l : List Row). get_or l k unknown_row) t.meant ∙ default_behind rows k unknown_row
-
-  pub width : (get_or table k d).length ≤ length (get_or table k d).text
-  width =
-      let f : CodeRow → Bool = λ r. leb r.length (length r.text) in
-      leb-true _ _
-      (sym (get_or-map f table k d) ∙ any_default (map f table) k (f d) true (omega (arith, inside, length-map table f))
-      ∙ ap (λ (l : List Bool). get_or l k true) t.within ∙ all_true (length table) k)

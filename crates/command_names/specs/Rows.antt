@@ -1,6 +1,5 @@
 -- What the code's rows mean (`specs/Names.antt` of `command_spec`).
-use Rattle.std.specs.Prelude.{ℕ, ◌≡◌, true, List, [], ◌∷◌, ◌++◌, map, leb, length, get_or, take, replicate}
-use Rattle.std.specs.Prelude.{Option, None, Some}
+use Rattle.std.specs.Prelude.{ℕ, ◌≡◌, List, [], ◌∷◌, ◌++◌, map, get_or}
 use Rattle.base_key.specs.Bytes.{Bytes}
 use Rattle.command_names.specs.declared.Row.{Row as CodeRow}
 use Rattle.command_names.specs.declared.Control.{Control as Said}
@@ -13,12 +12,11 @@ row_at k = get_or rows k unknown_row
 
 -- a row
 abbrev pub row_meant : CodeRow → Row
-row_meant r = row (take r.length r.text) r.name r.least r.most r.pairs r.queueable
+row_meant r = row r.text.now r.name r.least r.most r.pairs r.queueable
 
--- THE RULE of the code's table: its rows are those of `command_spec` and the one of an unknown name, and each name is within its text
+-- THE RULE of the code's table: its rows are those of `command_spec` and the one of an unknown name
 pub record TableRight (table : List CodeRow) : Type 0 where
   pub meant : map row_meant table ≡ rows ++ unknown_row ∷ []
-  pub within : map (λ (r : CodeRow). leb r.length (length r.text)) table ≡ replicate (length table) true
 
 -- what a look-up of a word answers: its row
 pub record Looked (word : Bytes) (r : CodeRow) : Type 0 where

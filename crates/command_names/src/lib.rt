@@ -1,7 +1,9 @@
 // The table of commands (`specs/Names.antt` of `command_spec`), and what a row says of a command.
 #![tactic(auto)]
 
-ghost use Rattle.std.specs.Prelude.{◌≡◌, ◌≤◌, eqb, length, take};
+pub mod named;
+
+ghost use Rattle.std.specs.Prelude.{◌≡◌, eqb};
 ghost use Rattle.std.specs.List.{list_all, zip};
 ghost use Rattle.resp_spec.specs.Letters.{upper};
 ghost use Rattle.command_spec.specs.Names.{same_name, count_right, with_options, operation_of, may_queue, not_above, control_of};
@@ -12,9 +14,8 @@ use command_spec::{Name, Operation};
 // A command. The counts are those of the arguments behind its name.
 #[derive(Clone, Copy)]
 pub struct Row {
-    // In capitals, filled up with zeros.
-    pub text: [u8; 8],
-    pub length: usize,
+    // In capitals.
+    pub text: &'static [u8],
     pub name: Name,
     pub least: usize,
     pub most: Option<usize>,
@@ -26,205 +27,53 @@ pub struct Row {
 // The place of the last row, which stands for every name that is no command.
 const UNKNOWN: usize = 21;
 
+// The row of a command that may be queued, and of any other.
+macro_rules! row {
+    ($text:expr, Queueable($operation:ident), $least:expr, $most:expr, $pairs:expr) => {
+        Row {
+            text: $text,
+            name: Name::Queueable(Operation::$operation),
+            least: $least,
+            most: $most,
+            pairs: $pairs,
+            queueable: true,
+        }
+    };
+    ($text:expr, $name:ident, $least:expr, $most:expr) => {
+        Row {
+            text: $text,
+            name: Name::$name,
+            least: $least,
+            most: $most,
+            pairs: false,
+            queueable: false,
+        }
+    };
+}
+
 const ROWS: [Row; 22] = [
-    Row {
-        text: *b"GET\0\0\0\0\0",
-        length: 3,
-        name: Name::Queueable(Operation::Get),
-        least: 1,
-        most: Some(1),
-        pairs: false,
-        queueable: true,
-    },
-    Row {
-        text: *b"SET\0\0\0\0\0",
-        length: 3,
-        name: Name::Queueable(Operation::Set),
-        least: 2,
-        most: None,
-        pairs: false,
-        queueable: true,
-    },
-    Row {
-        text: *b"DEL\0\0\0\0\0",
-        length: 3,
-        name: Name::Queueable(Operation::Del),
-        least: 1,
-        most: None,
-        pairs: false,
-        queueable: true,
-    },
-    Row {
-        text: *b"EXISTS\0\0",
-        length: 6,
-        name: Name::Queueable(Operation::Exists),
-        least: 1,
-        most: None,
-        pairs: false,
-        queueable: true,
-    },
-    Row {
-        text: *b"MGET\0\0\0\0",
-        length: 4,
-        name: Name::Queueable(Operation::Mget),
-        least: 1,
-        most: None,
-        pairs: false,
-        queueable: true,
-    },
-    Row {
-        text: *b"MSET\0\0\0\0",
-        length: 4,
-        name: Name::Queueable(Operation::Mset),
-        least: 2,
-        most: None,
-        pairs: true,
-        queueable: true,
-    },
-    Row {
-        text: *b"INCR\0\0\0\0",
-        length: 4,
-        name: Name::Queueable(Operation::Incr),
-        least: 1,
-        most: Some(1),
-        pairs: false,
-        queueable: true,
-    },
-    Row {
-        text: *b"INCRBY\0\0",
-        length: 6,
-        name: Name::Queueable(Operation::Incrby),
-        least: 2,
-        most: Some(2),
-        pairs: false,
-        queueable: true,
-    },
-    Row {
-        text: *b"DECR\0\0\0\0",
-        length: 4,
-        name: Name::Queueable(Operation::Decr),
-        least: 1,
-        most: Some(1),
-        pairs: false,
-        queueable: true,
-    },
-    Row {
-        text: *b"PING\0\0\0\0",
-        length: 4,
-        name: Name::Queueable(Operation::Ping),
-        least: 0,
-        most: Some(1),
-        pairs: false,
-        queueable: true,
-    },
-    Row {
-        text: *b"ECHO\0\0\0\0",
-        length: 4,
-        name: Name::Queueable(Operation::Echo),
-        least: 1,
-        most: Some(1),
-        pairs: false,
-        queueable: true,
-    },
-    Row {
-        text: *b"DBSIZE\0\0",
-        length: 6,
-        name: Name::Dbsize,
-        least: 0,
-        most: Some(0),
-        pairs: false,
-        queueable: false,
-    },
-    Row {
-        text: *b"KEYS\0\0\0\0",
-        length: 4,
-        name: Name::Keys,
-        least: 1,
-        most: Some(1),
-        pairs: false,
-        queueable: false,
-    },
-    Row {
-        text: *b"SCAN\0\0\0\0",
-        length: 4,
-        name: Name::Scan,
-        least: 1,
-        most: None,
-        pairs: false,
-        queueable: false,
-    },
-    Row {
-        text: *b"RANGE\0\0\0",
-        length: 5,
-        name: Name::Range,
-        least: 2,
-        most: None,
-        pairs: false,
-        queueable: false,
-    },
-    Row {
-        text: *b"MULTI\0\0\0",
-        length: 5,
-        name: Name::Multi,
-        least: 0,
-        most: None,
-        pairs: false,
-        queueable: false,
-    },
-    Row {
-        text: *b"EXEC\0\0\0\0",
-        length: 4,
-        name: Name::Exec,
-        least: 0,
-        most: None,
-        pairs: false,
-        queueable: false,
-    },
-    Row {
-        text: *b"DISCARD\0",
-        length: 7,
-        name: Name::Discard,
-        least: 0,
-        most: None,
-        pairs: false,
-        queueable: false,
-    },
-    Row {
-        text: *b"WATCH\0\0\0",
-        length: 5,
-        name: Name::Watch,
-        least: 1,
-        most: None,
-        pairs: false,
-        queueable: false,
-    },
-    Row {
-        text: *b"UNWATCH\0",
-        length: 7,
-        name: Name::Unwatch,
-        least: 0,
-        most: None,
-        pairs: false,
-        queueable: false,
-    },
-    Row {
-        text: *b"QUIT\0\0\0\0",
-        length: 4,
-        name: Name::Quit,
-        least: 0,
-        most: None,
-        pairs: false,
-        queueable: false,
-    },
-    Row {
-        text: *b"\0\0\0\0\0\0\0\0",
-        length: 0,
-        name: Name::Unknown,
-        least: 0,
-        most: None,
-        pairs: false,
-        queueable: false,
-    },
+    row!(b"GET", Queueable(Get), 1, Some(1), false),
+    row!(b"SET", Queueable(Set), 2, None, false),
+    row!(b"DEL", Queueable(Del), 1, None, false),
+    row!(b"EXISTS", Queueable(Exists), 1, None, false),
+    row!(b"MGET", Queueable(Mget), 1, None, false),
+    row!(b"MSET", Queueable(Mset), 2, None, true),
+    row!(b"INCR", Queueable(Incr), 1, Some(1), false),
+    row!(b"INCRBY", Queueable(Incrby), 2, Some(2), false),
+    row!(b"DECR", Queueable(Decr), 1, Some(1), false),
+    row!(b"PING", Queueable(Ping), 0, Some(1), false),
+    row!(b"ECHO", Queueable(Echo), 1, Some(1), false),
+    row!(b"DBSIZE", Dbsize, 0, Some(0)),
+    row!(b"KEYS", Keys, 1, Some(1)),
+    row!(b"SCAN", Scan, 1, None),
+    row!(b"RANGE", Range, 2, None),
+    row!(b"MULTI", Multi, 0, None),
+    row!(b"EXEC", Exec, 0, None),
+    row!(b"DISCARD", Discard, 0, None),
+    row!(b"WATCH", Watch, 1, None),
+    row!(b"UNWATCH", Unwatch, 0, None),
+    row!(b"QUIT", Quit, 0, None),
+    row!(b"", Unknown, 0, None),
 ];
 
 // The names that steer a session, and all others.
@@ -257,7 +106,8 @@ pub fn count_right(row: Row, count: usize) -> bool
     row.least <= count && not_above(row.most, count) && (!row.pairs || count % 2 == 0)
 }
 
-// The operation of a name that may be queued, and PING for any other.
+// The operation of a name that may be queued, and PING for any other: an `Option` would give `kind_at`, whose requests may all be queued, a case
+// that cannot come.
 pub fn operation_of(name: Name) -> Operation
     ensures { result ≡ operation_of name }
 {
@@ -312,19 +162,11 @@ fn alike(word: &[u8], text: &[u8]) -> bool
     word.iter().zip(text).all(|(byte, capital)| resp_sanitize::upper_byte(*byte) == *capital)
 }
 
-// Is `word` the name `text`, which is in capitals, in any letter case?
+// Is `word` the name `text`, which is in capitals, in any letter case? `eq_ignore_ascii_case` would also take small letters of `text` for its capitals.
 pub fn same(word: &[u8], text: &[u8]) -> bool
     ensures { result ≡ same_name word.now text.now }
 {
     word.len() == text.len() && alike(word, text)
-}
-
-// Is `word` the name of this row?
-fn is_named(row: &Row, word: &[u8]) -> bool
-    requires { row.now.length ≤ length row.now.text }
-    ensures { result ≡ same_name word.now (take row.now.length row.now.text) }
-{
-    same(word, &row.text[..row.length])
 }
 
 // The table.
@@ -340,7 +182,7 @@ pub fn look_up(word: &[u8]) -> Row
 {
     let rows = table();
     for row in &rows[..UNKNOWN] {
-        if is_named(row, word) {
+        if same(word, row.text) {
             return *row;
         }
     }

@@ -3,31 +3,24 @@ use Prim.Native.Nat.{ℕ, suc}
 use native.Mathlib.Omega.{arith}
 use mathlib.Core.Path.{◌≡◌, refl, sym, ap, ◌∙◌, subst}
 use mathlib.Core.List.{List, [], ◌∷◌}
-use lib.ListN.{length}
 use Rattle.store_memtable.specs.Table.{Write}
 use Rattle.store_memtable.specs.Versions.{Version, Store, writes_size, commit_one, commit}
 use Rattle.store_memtable.specs.Layout.{store_in, leave_words, leave_bytes}
 use Rattle.store_memtable.specs.Rows.{Valid}
 use Rattle.command_room.specs.Writes.{RoomForAll}
 use Rattle.store_memtable.proofs.VersionLaws.{length_insert, size_insert}
-use Rattle.store_memtable.proofs.LayoutLaws.{words_left_long, bytes_left_long}
-use Rattle.store_memtable.proofs.Sequence.{Holds, holds_first, holds_valid, holds_store, holds_count, holds_used, holds_last, holds_most_versions, holds_most_bytes, holds_one}
+use Rattle.store_memtable.proofs.Sequence.{Holds, holds_first, holds_store, holds_count, holds_used, holds_last, holds_most_versions, holds_most_bytes, holds_one}
 
 -- of the writes `all` on the store of w₀ and b₀, those before `rest` are committed in w and b, and there is room for the rest
 pub record Commits (all rest : List Write) (w₀ b₀ w b : List ℕ) : Type 0 where
   pub holds : Holds (store_in w b) w₀ b₀ w b
   pub whole : commit all (store_in w₀ b₀) ≡ commit rest (store_in w b)
   pub room : RoomForAll w rest
-  pub same_words : length w ≡ length w₀
-  pub same_bytes_lem : length b ≡ length b₀
 
 pub commits_none : (ws : List Write) (w b : List ℕ) → Valid w b → RoomForAll w ws → Commits ws ws w b w b
-commits_none ws w b v r = record { holds = holds_first w b v; whole = refl; room = r; same_words = refl; same_bytes_lem = refl }
+commits_none ws w b v r = record { holds = holds_first w b v; whole = refl; room = r }
 
 module _ {all : List Write} {w₀ b₀ w b : List ℕ} where
-  pub commits_valid : {rest : List Write} → Commits all rest w₀ b₀ w b → Valid w b
-  commits_valid p = holds_valid p.holds
-
   module _ (p : Commits all [] w₀ b₀ w b) where
     pub commits_words : w ≡ leave_words (commit all (store_in w₀ b₀)) w₀
     unfolding commit
@@ -67,6 +60,4 @@ module _ {all : List Write} {w₀ b₀ w b : List ℕ} where
             bytes_free = omega (arith, r.bytes_free, u, u', m, mb, mb');
             seqs_free = omega (arith, r.seqs_free, q, q');
           };
-          same_words = ap length h'.words_are ∙ words_left_long (commit_one wr st) w₀ b₀ h'.fits;
-          same_bytes_lem = ap length h'.bytes_are ∙ bytes_left_long (commit_one wr st) w₀ b₀ h'.fits;
         }

@@ -21,7 +21,10 @@ use Rattle.group_spec.specs.declared.Verdict.{Verdict}
 use Rattle.group_spec.specs.declared.Verdict.TheVariants.{Accepted, Conflict, NoRoom, NoSequence, NotTaken}
 use Rattle.group_spec.specs.Group.{plain, conflicts, has_room, has_sequences, judge, verdict_alone, verdict_byte}
 use Rattle.group_spec.proofs.SizeLaws.{left_rest, rest_within, short_above}
-use Rattle.command_spec.specs.declared.Answer.{Answer}
+use Rattle.command_spec.specs.Numbers.{AnswerNumbers, error_number, number_of}
+use Rattle.command_spec.specs.declared.CallError.{CallError}
+use Rattle.command_spec.specs.declared.CallError.TheVariants.{NoSession, TooManyArguments, ReplyTooLong, QueueFull, WatchFull, GroupUnfit, MemoryUnfit}
+use Rattle.command_spec.specs.declared.CallError.TheVariants as error
 use Rattle.command_spec.specs.Command.{Effect}
 use Rattle.command_spec.specs.Session.{Session, committed}
 use Rattle.command_spec.specs.Finish.{silent, finish, finish_by, Says, StoreLeft}
@@ -29,7 +32,7 @@ use Rattle.command_room.specs.Writes.{RoomForAll, verdict_left, verdict_answer}
 use Rattle.command_answer.specs.Answers.{refusal, put_answer}
 use Rattle.command_room.specs.Served.{buffer_after, effect_served, Runs}
 use Rattle.command_answer.proofs.Finish.{Cleared, finish_wrote, says_wrote, finish_full, full_cleared, says_number}
-use Rattle.std.specs.Prelude.{Option, None, Some}
+use Rattle.std.specs.Prelude.{Option, None, Some, Result, Ok, Err}
 
 -- THE VERDICT of writes without a read sequence
 module _ (w b : List ℕ) (v : Valid w b) (ws : List Write) where
@@ -95,7 +98,7 @@ module _ (e : Effect) (w b : List ℕ) (used : ℕ) {out mid : Bytes} {put : Opt
   served s = ap (λ (x : Verdict). finish (length out) used (committed x e (store_in w b) s) (store_in w b) s) (sym v-is)
 
   -- a number that leaves all
-  refused : (n : ℕ) (s : Session) {r : Answer} {out' : Bytes} → Valid w b → finish (length out) used (committed v e (store_in w b) s) (store_in w b) s ≡ silent n 0 (store_in w b) s
+  refused : (n : ℕ) (s : Session) {r : AnswerNumbers} {out' : Bytes} → Valid w b → finish (length out) used (committed v e (store_in w b) s) (store_in w b) s ≡ silent n 0 (store_in w b) s
       → r ≡ refusal n → out' ≡ replicate (length out) 0
       → Says (effect_served (length out) used e (store_in w b) s) out r out' × StoreLeft (effect_served (length out) used e (store_in w b) s) w b w b
   refused n s {r} {out'} val f r-is o_is =
@@ -104,7 +107,7 @@ module _ (e : Effect) (w b : List ℕ) (used : ℕ) {out mid : Bytes} {put : Opt
         record { words = sym (leave_words_same w b val); bytes = sym (leave_bytes_same w b val) },
       )
 
-  runs_by : {r : Answer} {out' w' b' : List ℕ}
+  runs_by : {r : AnswerNumbers} {out' w' b' : List ℕ}
       → ((s : Session) → Says (effect_served (length out) used e (store_in w b) s) out r out' × StoreLeft (effect_served (length out) used e (store_in w b) s) w b w' b')
       → Runs e used out w b r out' w' b'
   runs_by f = record { says = λ s. (f s).0; left = λ s. (f s).1 }
@@ -113,10 +116,10 @@ module _ (e : Effect) (w b : List ℕ) (used : ℕ) {out mid : Bytes} {put : Opt
   buffer_cleared x o_is c = o_is ∙ c ∙ ap (λ (n : ℕ). replicate n 0) (length_kept p)
 
   -- number 0: the writes are accepted, the reply fits, and the writes are committed
-  pub runs_written : {r : Answer} {out' w' b' : List ℕ} → Cleared out → r ≡ verdict_answer v put used → r.number ≡ 0 → out' ≡ buffer_after v mid
+  pub runs_written : {r : AnswerNumbers} {out' w' b' : List ℕ} → Cleared out → r ≡ verdict_answer v put used → r.number ≡ 0 → out' ≡ buffer_after v mid
       → w' ≡ leave_words (commit e.1 (store_in w b)) w → b' ≡ leave_bytes (commit e.1 (store_in w b)) b → Runs e used out w b r out' w' b'
   unfolding verdict_answer put_answer buffer_after
-  runs_written {r} {out'} {w'} {b'} cleared r-is zero o_is w-is b-is = runs_by (λ s. go v refl put refl s r-is (ap (λ (x : Answer). x.number) (sym r-is) ∙ zero) o_is)
+  runs_written {r} {out'} {w'} {b'} cleared r-is zero o_is w-is b-is = runs_by (λ s. go v refl put refl s r-is (ap (λ (x : AnswerNumbers). x.number) (sym r-is) ∙ zero) o_is)
     where
       Both : Session → Type 0
       Both s = Says (effect_served (length out) used e (store_in w b) s) out r out' × StoreLeft (effect_served (length out) used e (store_in w b) s) w b w' b'
@@ -133,7 +136,7 @@ module _ (e : Effect) (w b : List ℕ) (used : ℕ) {out mid : Bytes} {put : Opt
       go NotTaken x-is q q-is s a z o = absurd (omega arith)
 
   -- any other number leaves all
-  pub runs_refused : {r : Answer} {out' : List ℕ} → Valid w b → r ≡ verdict_answer v put used → (r.number ≡ 0 → ⊥) → out' ≡ buffer_after v mid
+  pub runs_refused : {r : AnswerNumbers} {out' : List ℕ} → Valid w b → r ≡ verdict_answer v put used → (r.number ≡ 0 → ⊥) → out' ≡ buffer_after v mid
       → Runs e used out w b r out' w b
   unfolding verdict_answer put_answer buffer_after
   runs_refused {r} {out'} val r-is some o_is = runs_by (λ s. go v refl put refl s r-is o_is)
@@ -142,7 +145,7 @@ module _ (e : Effect) (w b : List ℕ) (used : ℕ) {out mid : Bytes} {put : Opt
       Both s = Says (effect_served (length out) used e (store_in w b) s) out r out' × StoreLeft (effect_served (length out) used e (store_in w b) s) w b w b
 
       go : (x : Verdict) → v ≡ x → (q : Option ℕ) → put ≡ q → (s : Session) → r ≡ verdict_answer x q used → out' ≡ buffer_after x mid → Both s
-      go Accepted x-is (Some k) q-is s a o = absurd (some (ap (λ (y : Answer). y.number) a))
+      go Accepted x-is (Some k) q-is s a o = absurd (some (ap (λ (y : AnswerNumbers). y.number) a))
       go Accepted x-is None q-is s a o =
           refused 3 s val (rw x-is (unfold committed in finish_full e.0 p used (store_in w b) (commit e.1 (store_in w b)) s s q-is)) a
           (o ∙ full_cleared e.0 p used (store_in w b) (commit e.1 (store_in w b)) s s q-is)
@@ -152,9 +155,9 @@ module _ (e : Effect) (w b : List ℕ) (used : ℕ) {out mid : Bytes} {put : Opt
       go NotTaken x-is q q-is s a o = refused 255 s val (rw x-is (unfold committed finish finish_by in refl)) a (buffer_cleared NotTaken o refl)
 
 -- number 0: the verdict is Accepted
-pub answer_accepted : (v : Verdict) (put : Option ℕ) (used : ℕ) {r : Answer} → r ≡ verdict_answer v put used → r.number ≡ 0 → v ≡ Accepted
+pub answer_accepted : (v : Verdict) (put : Option ℕ) (used : ℕ) {r : AnswerNumbers} → r ≡ verdict_answer v put used → r.number ≡ 0 → v ≡ Accepted
 unfolding verdict_answer
-answer_accepted v put used r-is zero = go v (ap (λ (x : Answer). x.number) (sym r-is) ∙ zero)
+answer_accepted v put used r-is zero = go v (ap (λ (x : AnswerNumbers). x.number) (sym r-is) ∙ zero)
   where
     go : (x : Verdict) → (verdict_answer x put used).number ≡ 0 → x ≡ Accepted
     go Accepted z = refl
@@ -163,32 +166,47 @@ answer_accepted v put used r-is zero = go v (ap (λ (x : Answer). x.number) (sym
     go NoSequence z = absurd (omega arith)
     go NotTaken z = absurd (omega arith)
 
--- THE ANSWER by the number of the verdict
-module _ (put : Option ℕ) (used : ℕ) (mid : Bytes) (v : Verdict) {n : ℕ} (n-is : n ≡ verdict_byte v) where
-  pub answer_refused : {r : Answer} → (n ≡ 0 → ⊥) → r ≡ refusal n → r ≡ verdict_answer v put used
+-- THE ANSWER by what the look at the room gave
+error_some : (e : CallError) → error_number e ≡ 0 → ⊥
+error_some NoSession z = absurd (omega arith)
+error_some TooManyArguments z = absurd (omega arith)
+error_some ReplyTooLong z = absurd (omega arith)
+error_some QueueFull z = absurd (omega arith)
+error_some WatchFull z = absurd (omega arith)
+error_some error.NoRoom z = absurd (omega arith)
+error_some error.NoSequence z = absurd (omega arith)
+error_some GroupUnfit z = absurd (omega arith)
+error_some MemoryUnfit z = absurd (omega arith)
+
+module _ {A : Type 0} {checked : Result A CallError} {e : CallError} (is : checked ≡ Err e) (v : Verdict) (n-is : number_of checked ≡ verdict_byte v) where
+  byte_is : error_number e ≡ verdict_byte v
+  byte_is = sym (ap number_of is) ∙ n-is
+
+  pub answer_refused : (put : Option ℕ) (used : ℕ) → refusal (error_number e) ≡ verdict_answer v put used
   unfolding verdict_answer
-  answer_refused some r-is = r-is ∙ go v n-is
+  answer_refused put used = go v byte_is
     where
-      go : (x : Verdict) → n ≡ verdict_byte x → refusal n ≡ verdict_answer x put used
-      go Accepted e = absurd (some e)
-      go Conflict e = ap refusal e
-      go NoRoom e = ap refusal e
-      go NoSequence e = ap refusal e
-      go NotTaken e = ap refusal e
+      go : (x : Verdict) → error_number e ≡ verdict_byte x → refusal (error_number e) ≡ verdict_answer x put used
+      go Accepted b = absurd (error_some e b)
+      go Conflict b = ap refusal b
+      go NoRoom b = ap refusal b
+      go NoSequence b = ap refusal b
+      go NotTaken b = ap refusal b
 
-  pub buffer_refused : {out : Bytes} → (n ≡ 0 → ⊥) → out ≡ replicate (length mid) 0 → out ≡ buffer_after v mid
+  pub buffer_refused : (mid : Bytes) {out : Bytes} → out ≡ replicate (length mid) 0 → out ≡ buffer_after v mid
   unfolding buffer_after
-  buffer_refused some o_is = o_is ∙ go v n-is
+  buffer_refused mid o_is = o_is ∙ go v byte_is
     where
-      go : (x : Verdict) → n ≡ verdict_byte x → replicate (length mid) 0 ≡ buffer_after x mid
-      go Accepted e = absurd (some e)
-      go Conflict e = refl
-      go NoRoom e = refl
-      go NoSequence e = refl
-      go NotTaken e = refl
+      go : (x : Verdict) → error_number e ≡ verdict_byte x → replicate (length mid) 0 ≡ buffer_after x mid
+      go Accepted b = absurd (error_some e b)
+      go Conflict b = refl
+      go NoRoom b = refl
+      go NoSequence b = refl
+      go NotTaken b = refl
 
-  accepted_is : n ≡ 0 → v ≡ Accepted
-  accepted_is e = go v (sym n-is ∙ e)
+module _ {A : Type 0} {checked : Result A CallError} {a : A} (is : checked ≡ Ok a) (v : Verdict) (n-is : number_of checked ≡ verdict_byte v) where
+  accepted_is : v ≡ Accepted
+  accepted_is = go v (sym n-is ∙ ap number_of is)
     where
       go : (x : Verdict) → verdict_byte x ≡ 0 → x ≡ Accepted
       go Accepted z = refl
@@ -197,13 +215,13 @@ module _ (put : Option ℕ) (used : ℕ) (mid : Bytes) (v : Verdict) {n : ℕ} (
       go NoSequence z = absurd (omega arith)
       go NotTaken z = absurd (omega arith)
 
-  pub answer_put : {r : Answer} → n ≡ 0 → r ≡ put_answer put used → r ≡ verdict_answer v put used
+  pub answer_put : (put : Option ℕ) (used : ℕ) {r : AnswerNumbers} → r ≡ put_answer put used → r ≡ verdict_answer v put used
   unfolding verdict_answer
-  answer_put e r-is = r-is ∙ rw (accepted_is e)
+  answer_put put used r-is = r-is ∙ rw accepted_is
 
-  pub buffer_put : n ≡ 0 → mid ≡ buffer_after v mid
+  pub buffer_put : (mid : Bytes) → mid ≡ buffer_after v mid
   unfolding buffer_after
-  buffer_put e = rw (accepted_is e)
+  buffer_put mid = rw accepted_is
 
 -- A COMMAND THAT WRITES NOTHING is accepted, and leaves the store
 nothing_accepted : (w b : List ℕ) → Valid w b → last_word w < 2 ^ 64 → Accepted ≡ verdict_alone (store_in w b) (plain [])
@@ -213,16 +231,16 @@ nothing_accepted w b v h =
     let l : ltb (last_word w + 0) (2 ^ 64) ≡ true = lt-ltb (last_word w + 0) (2 ^ 64) (omega arith) in
     sym (rw (c, l)) ∙ verdict_is w b v [] {n = 0} {l = Some (most_bytes_word w - used_word w - 0)} refl (sym (left_rest (most_bytes_word w - used_word w) 0 (omega arith)))
 
-pub runs_quiet : (p : Reply) (w b : List ℕ) (used : ℕ) {out out' : Bytes} {put : Option ℕ} {r : Answer} → Valid w b → last_word w < 2 ^ 64 → Cleared out
+pub runs_quiet : (p : Reply) (w b : List ℕ) (used : ℕ) {out out' : Bytes} {put : Option ℕ} {r : AnswerNumbers} → Valid w b → last_word w < 2 ^ 64 → Cleared out
     → Puts (encode p) out put out' → r ≡ put_answer put used → Runs (p, []) used out w b r out' w b
 unfolding verdict_answer buffer_after put_answer commit
 runs_quiet p w b used {out} {out'} {put} {r} val h cleared puts r-is = go put refl r-is
   where
     number_wrote : {k : ℕ} → r ≡ put_answer (Some k) used → r.number ≡ 0
-    number_wrote a = ap (λ (x : Answer). x.number) a
+    number_wrote a = ap (λ (x : AnswerNumbers). x.number) a
 
     number_full : r ≡ put_answer None used → r.number ≡ 3
-    number_full a = ap (λ (x : Answer). x.number) a
+    number_full a = ap (λ (x : AnswerNumbers). x.number) a
 
     go : (q : Option ℕ) → put ≡ q → r ≡ put_answer q used → Runs (p, []) used out w b r out' w b
     go (Some k) e a =

@@ -13,15 +13,21 @@ use Rattle.store_memtable.specs.Table.{Write}
 use Rattle.store_memtable.specs.Versions.{bytes_of, writes_size, commit_one, commit}
 use Rattle.store_memtable.specs.Layout.{count_word, last_word, most_versions_word, store_in, leave_words, leave_bytes}
 use Rattle.store_memtable.specs.Rows.{Valid, RoomForOne, value_if, bytes_left}
-use Rattle.group_spec.specs.declared.Verdict.TheVariants.{Accepted, NoRoom, NoSequence}
-use Rattle.group_spec.specs.Settling.{KeyIn}
+use Rattle.group_spec.specs.Group.{verdict_byte}
 use Rattle.group_spec.proofs.SizeLaws.{left_rest, left_then, short_then}
-use Rattle.command_spec.specs.Command.{tombstone}
-use Rattle.command_spec.specs.Places.{argument_at, lengths_at, tombstones_at, pairs_at, PartsIn}
-use Rattle.command_spec.proofs.PlaceLaws.{part_in, lengths_next, lengths_end, tombstones_next, tombstones_end, pairs_next, pairs_end}
+use Rattle.command_spec.specs.Command.{argument, tombstone}
+use Rattle.command_spec.specs.Places.{argument_at, arguments_at, lengths_at, tombstones_at, pairs_at}
+use Rattle.command_spec.proofs.PlaceLaws.{argument_is, lengths_next, lengths_end, tombstones_next, tombstones_end, pairs_next, pairs_end}
 use Rattle.command_room.specs.Writes.{RoomForAll, verdict_left}
-use Rattle.command_room.proofs.Commits.{Commits, commits_none, commits_valid, commits_words, commits_bytes, commits_more}
-use Rattle.std.specs.Prelude.{Option, None}
+use Rattle.command_room.proofs.Commits.{Commits, commits_none, commits_words, commits_bytes, commits_more}
+use Rattle.std.specs.Prelude.{Option, None, Result, Err, ok_or}
+use Rattle.command_spec.specs.Numbers.{number_of}
+use Rattle.command_spec.specs.declared.CallError.{CallError}
+use Rattle.command_spec.specs.declared.CallError.TheVariants as error
+
+-- an argument by its place
+pub at_place : (p : List ℕ) (s : Bytes) (count k : ℕ) {name : Bytes} → k < count → name ≡ argument k (arguments_at 0 count p s) → name ≡ argument_at k p s
+at_place p s count k h e = e ∙ sym (argument_is p s count k h refl)
 
 -- ONE WRITE, whose key and value are the parts that were taken
 module _ {w : List ℕ} {k name : Bytes} (name_is : name ≡ k) where
@@ -64,34 +70,29 @@ module _ (w b : List ℕ) {k name : Bytes} (name_is : name ≡ k) where
 pub record Deleting (p : List ℕ) (s : Bytes) (from to : ℕ) (w₀ b₀ w b : List ℕ) (i : ℕ) : Type 0 where
   pub within : i ≤ to
   pub commits : Commits (tombstones_at from (to - from) p s) (tombstones_at i (to - i) p s) w₀ b₀ w b
-  pub same_words : length w ≡ length w₀
-  pub same_bytes_lem : length b ≡ length b₀
 
 pub deleting_none : (p : List ℕ) (s : Bytes) (from to : ℕ) (w b : List ℕ) → from ≤ to → Valid w b → RoomForAll w (tombstones_at from (to - from) p s)
     → Deleting p s from to w b w b from
-deleting_none p s from to w b h v r = record { within = h; commits = commits_none _ w b v r; same_words = refl; same_bytes_lem = refl }
+deleting_none p s from to w b h v r = record { within = h; commits = commits_none _ w b v r }
 
 one_room : {w : List ℕ} {wr : Write} {rest : List Write} → RoomForAll w (wr ∷ rest) → RoomForAll w (wr ∷ [])
 unfolding writes_size
 one_room r = record { rows_free = omega (arith, r.rows_free); bytes_free = omega (arith, r.bytes_free); seqs_free = omega (arith, r.seqs_free) }
 
 module _ {p : List ℕ} {s : Bytes} {from to : ℕ} {w₀ b₀ w b : List ℕ} {i : ℕ} (d : Deleting p s from to w₀ b₀ w b i) where
-  pub deleting_valid : Valid w b
-  deleting_valid = commits_valid d.commits
-
   module _ (h : i < to) where
     next_commits : Commits (tombstones_at from (to - from) p s) (tombstone (argument_at i p s) ∷ tombstones_at (i + 1) (to - (i + 1)) p s) w₀ b₀ w b
     next_commits = subst (λ (l : List Write). Commits (tombstones_at from (to - from) p s) l w₀ b₀ w b) (tombstones_next p s h) d.commits
 
-    pub deleting_argument : PartsIn p s to → KeyIn p s (2 * i)
-    deleting_argument q = part_in p s to i q h
+    module _ {name : Bytes} (value : Bytes) (name_is : name ≡ argument i (arguments_at 0 to p s)) where
+      pub deleting_room : RoomForOne w name (bytes_of (value_if false value))
+      deleting_room = tombstone_room (at_place p s to i h name_is) value (one_room next_commits.room)
 
-    pub deleting_room : RoomForAll w (tombstone (argument_at i p s) ∷ [])
-    deleting_room = one_room next_commits.room
-
-    pub deleting_more : {w' b' : List ℕ} → w' ≡ leave_words (commit_one (tombstone (argument_at i p s)) (store_in w b)) w
-        → b' ≡ leave_bytes (commit_one (tombstone (argument_at i p s)) (store_in w b)) b → Deleting p s from to w₀ b₀ w' b' (i + 1)
-    deleting_more e f = let m = commits_more next_commits e f in record { within = omega arith; commits = m; same_words = m.same_words; same_bytes_lem = m.same_bytes_lem }
+      pub deleting_more : {w' b' : List ℕ} → w' ≡ leave_words (commit_one (name, value_if false value) (store_in w b)) w
+          → b' ≡ leave_bytes (commit_one (name, value_if false value) (store_in w b)) b → Deleting p s from to w₀ b₀ w' b' (i + 1)
+      deleting_more e f =
+          let n = at_place p s to i h name_is in
+          record { within = omega arith; commits = commits_more next_commits (tombstone_words w b n value e) (tombstone_bytes w b n value f) }
 
   module _ (h : to ≤ i) where
     all_commits : Commits (tombstones_at from (to - from) p s) [] w₀ b₀ w b
@@ -107,8 +108,6 @@ module _ {p : List ℕ} {s : Bytes} {from to : ℕ} {w₀ b₀ w b : List ℕ} {
 pub record Setting (p : List ℕ) (s : Bytes) (from pairs : ℕ) (w₀ b₀ w b : List ℕ) (j : ℕ) : Type 0 where
   pub within : j ≤ pairs
   pub commits : Commits (pairs_at from (2 * pairs) p s) (pairs_at (from + 2 * j) (2 * (pairs - j)) p s) w₀ b₀ w b
-  pub same_words : length w ≡ length w₀
-  pub same_bytes_lem : length b ≡ length b₀
 
 pub setting_none : (p : List ℕ) (s : Bytes) (from pairs : ℕ) (w b : List ℕ) → Valid w b → RoomForAll w (pairs_at from (2 * pairs) p s)
     → Setting p s from pairs w b w b 0
@@ -118,14 +117,9 @@ setting_none p s from pairs w b v r =
     record {
       within = omega arith;
       commits = subst (λ (l : List Write). Commits (pairs_at from (2 * pairs) p s) l w b w b) (λ z. pairs_at (f z) (n z) p s) (commits_none _ w b v r);
-      same_words = refl;
-      same_bytes_lem = refl;
     }
 
 module _ {p : List ℕ} {s : Bytes} {from pairs : ℕ} {w₀ b₀ w b : List ℕ} {j : ℕ} (d : Setting p s from pairs w₀ b₀ w b j) where
-  pub setting_valid : Valid w b
-  setting_valid = commits_valid d.commits
-
   module _ (h : j < pairs) where
     next_puts : Commits (pairs_at from (2 * pairs) p s) ((argument_at (from + 2 * j) p s, Some (argument_at (from + 2 * j + 1) p s)) ∷ pairs_at (from + 2 * (j + 1)) (2 * (pairs - (j + 1))) p s) w₀ b₀ w b
     next_puts =
@@ -134,19 +128,20 @@ module _ {p : List ℕ} {s : Bytes} {from pairs : ℕ} {w₀ b₀ w b : List ℕ
         subst (λ (l : List Write). Commits (pairs_at from (2 * pairs) p s) l w₀ b₀ w b)
         (pairs_next p s (from + 2 * j) (2 * (pairs - j)) (2 * (pairs - (j + 1))) (omega arith) ∙ ap (λ (k : ℕ). first ∷ pairs_at k (2 * (pairs - (j + 1))) p s) f) d.commits
 
-    pub setting_key : PartsIn p s (from + 2 * pairs) → KeyIn p s (2 * (from + 2 * j))
-    setting_key q = part_in p s (from + 2 * pairs) (from + 2 * j) q (omega arith)
+    module _ {count : ℕ} {name value : Bytes} (all : from + 2 * pairs ≤ count) (name_is : name ≡ argument (from + 2 * j) (arguments_at 0 count p s))
+        (value-is : value ≡ argument (from + 2 * j + 1) (arguments_at 0 count p s)) where
+      name_at : name ≡ argument_at (from + 2 * j) p s
+      name_at = at_place p s count (from + 2 * j) (omega arith) name_is
 
-    pub setting_value : PartsIn p s (from + 2 * pairs) → KeyIn p s (2 * (from + 2 * j + 1))
-    setting_value q = part_in p s (from + 2 * pairs) (from + 2 * j + 1) q (omega arith)
+      value_at : value ≡ argument_at (from + 2 * j + 1) p s
+      value_at = at_place p s count (from + 2 * j + 1) (omega arith) value-is
 
-    pub setting_room : RoomForAll w ((argument_at (from + 2 * j) p s, Some (argument_at (from + 2 * j + 1) p s)) ∷ [])
-    setting_room = one_room next_puts.room
+      pub setting_room : RoomForOne w name (bytes_of (value_if true value))
+      setting_room = pair_room name_at value_at (one_room next_puts.room)
 
-    pub setting_more : {w' b' : List ℕ} → w' ≡ leave_words (commit_one (argument_at (from + 2 * j) p s, Some (argument_at (from + 2 * j + 1) p s)) (store_in w b)) w
-        → b' ≡ leave_bytes (commit_one (argument_at (from + 2 * j) p s, Some (argument_at (from + 2 * j + 1) p s)) (store_in w b)) b
-        → Setting p s from pairs w₀ b₀ w' b' (j + 1)
-    setting_more e f = let m = commits_more next_puts e f in record { within = omega arith; commits = m; same_words = m.same_words; same_bytes_lem = m.same_bytes_lem }
+      pub setting_more : {w' b' : List ℕ} → w' ≡ leave_words (commit_one (name, value_if true value) (store_in w b)) w
+          → b' ≡ leave_bytes (commit_one (name, value_if true value) (store_in w b)) b → Setting p s from pairs w₀ b₀ w' b' (j + 1)
+      setting_more e f = record { within = omega arith; commits = commits_more next_puts (pair_words w b name_at value_at e) (pair_bytes w b name_at value_at f) }
 
   module _ (h : pairs ≤ j) where
     all_puts : Commits (pairs_at from (2 * pairs) p s) [] w₀ b₀ w b
@@ -162,9 +157,6 @@ module _ {p : List ℕ} {s : Bytes} {from pairs : ℕ} {w₀ b₀ w b : List ℕ
 pub record Lasting (p : List ℕ) (from to left rest i : ℕ) : Type 0 where
   pub within : i ≤ to
   pub whole : bytes_left left (total (lengths_at from (to - from) p)) ≡ bytes_left rest (total (lengths_at i (to - i) p))
-
-pub lasting_none : (p : List ℕ) (from to left : ℕ) → from ≤ to → Lasting p from to left left from
-lasting_none p from to left h = record { within = h; whole = refl }
 
 module _ {p : List ℕ} {from to left rest i : ℕ} (l : Lasting p from to left rest i) where
   module _ {len : ℕ} (len_is : len ≡ get_or p (2 * i + 1) 0) (h : i < to) where
@@ -188,19 +180,19 @@ module _ {p : List ℕ} {from to left rest i : ℕ} (l : Lasting p from to left 
 
 -- THE VERDICT
 module _ (w : List ℕ) (writes : ℕ) {l : Option ℕ} where
-  pub verdict_short : l ≡ None → NoRoom ≡ verdict_left w writes l
+  pub verdict_short : {x : CallError} → l ≡ None → Err x ≡ ok_or {T = ℕ} l error.NoRoom → {s : Result (Unit {0}) CallError} → s ≡ Err x → number_of s ≡ verdict_byte (verdict_left w writes l)
   unfolding verdict_left
-  verdict_short e = rw e
+  verdict_short {x} l-is x-is {s} s-is = rw (s-is, l-is) (let z : x ≡ error.NoRoom = cc in rw z)
 
-  module _ {n : ℕ} {c m : ℕ} (e : l ≡ Some n) (m-is : m ≡ most_versions_word w) (c-is : c ≡ count_word w) (f : count_word w ≤ most_versions_word w) where
-    pub verdict_full : m - c < writes → NoRoom ≡ verdict_left w writes l
+  module _ {n c m : ℕ} (l-is : l ≡ Some n) (m-is : m ≡ most_versions_word w) (c-is : c ≡ count_word w) (f : count_word w ≤ most_versions_word w) where
+    pub verdict_full : m - c < writes → 6 ≡ verdict_byte (verdict_left w writes l)
     unfolding verdict_left
-    verdict_full h = rw (e, lt-leb (count_word w + writes) (most_versions_word w) (omega arith))
+    verdict_full h = rw (l-is, lt-leb (count_word w + writes) (most_versions_word w) (omega arith))
 
-    pub verdict_accepted : {t : Bool} → writes ≤ m - c → t ≡ ltb (last_word w + writes) (2 ^ 64) → t ≡ true → Accepted ≡ verdict_left w writes l
+    pub verdict_accepted : {t : Bool} → writes ≤ m - c → t ≡ ltb (last_word w + writes) (2 ^ 64) → t ≡ true → 0 ≡ verdict_byte (verdict_left w writes l)
     unfolding verdict_left
-    verdict_accepted h t-is t_true = rw (e, le-leb (count_word w + writes) (most_versions_word w) (omega arith), ← t-is, t_true)
+    verdict_accepted h t-is t_true = rw (l-is, le-leb (count_word w + writes) (most_versions_word w) (omega arith), ← t-is, t_true)
 
-    pub verdict_no_sequence : {t : Bool} → writes ≤ m - c → t ≡ ltb (last_word w + writes) (2 ^ 64) → t ≡ false → NoSequence ≡ verdict_left w writes l
+    pub verdict_no_sequence : {t : Bool} → writes ≤ m - c → t ≡ ltb (last_word w + writes) (2 ^ 64) → t ≡ false → 7 ≡ verdict_byte (verdict_left w writes l)
     unfolding verdict_left
-    verdict_no_sequence h t-is t-false = rw (e, le-leb (count_word w + writes) (most_versions_word w) (omega arith), ← t-is, t-false)
+    verdict_no_sequence h t-is t-false = rw (l-is, le-leb (count_word w + writes) (most_versions_word w) (omega arith), ← t-is, t-false)

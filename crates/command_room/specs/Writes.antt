@@ -6,7 +6,7 @@ use Rattle.store_memtable.specs.Layout.{count_word, used_word, last_word, most_v
 use Rattle.group_spec.specs.declared.Verdict.{Verdict}
 use Rattle.group_spec.specs.declared.Verdict.TheVariants.{Accepted, NoRoom, NoSequence}
 use Rattle.group_spec.specs.Group.{verdict_byte, is_accepted}
-use Rattle.command_spec.specs.declared.Answer.{Answer}
+use Rattle.command_spec.specs.Numbers.{AnswerNumbers}
 use Rattle.command_answer.specs.Answers.{refusal, put_answer}
 use Rattle.std.specs.Prelude.{Option, None, Some}
 
@@ -28,5 +28,5 @@ verdict_left w writes (Some n) = cond (leb (count_word w + writes) (most_version
 verdict_left w writes None = NoRoom
 
 -- 6 and 7 come before 3
-unfoldable pub verdict_answer : Verdict → Option ℕ → ℕ → Answer
+unfoldable pub verdict_answer : Verdict → Option ℕ → ℕ → AnswerNumbers
 verdict_answer v put used = cond (is_accepted v) (put_answer put used) (refusal (verdict_byte v))

@@ -2,5 +2,4 @@
 #![tactic(auto)]
 
 pub mod commit;
-pub mod read;
 pub mod room;

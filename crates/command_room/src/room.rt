@@ -4,11 +4,13 @@ ghost use Rattle.base_key.specs.Bytes.{total};
 ghost use Rattle.store_memtable.specs.Layout.{used_word, most_bytes_word};
 ghost use Rattle.store_memtable.specs.Rows.{bytes_left};
 ghost use Rattle.command_spec.specs.Places.{lengths_at};
+ghost use Rattle.group_spec.specs.declared.Verdict.{Verdict};
+ghost use Rattle.group_spec.specs.Group.{verdict_byte};
 ghost use Rattle.command_room.specs.Writes.{HeaderIn, verdict_left, verdict_answer};
 ghost use Rattle.command_room.specs.Served.{buffer_after};
+ghost use Rattle.command_spec.specs.Numbers.{answer_numbers, number_of};
 
-use command_spec::Answer;
-use group_spec::Verdict;
+use command_spec::{Answer, CallError};
 use store_memtable::{LAST, read};
 
 // What the arguments from place `from` to `to` leave of `left` bytes.
@@ -36,31 +38,34 @@ pub fn free_bytes(words: &[u64]) -> usize
     read::word(words, 4) - read::word(words, 1)
 }
 
-// The verdict of `writes` writes, by what their bytes leave of the free ones.
-pub fn verdict_for(words: &[u64], writes: usize, left: Option<usize>) -> Verdict
+// Is there room for `writes` writes, by what their bytes leave of the free ones, and are there sequences?
+pub fn check_room(words: &[u64], writes: usize, left: Option<usize>) -> Result<(), CallError>
     requires { HeaderIn words.now }
-    ensures { result ≡ verdict_left words.now writes left }
+    ensures { number_of result ≡ verdict_byte (verdict_left words.now writes left) }
 {
-    let Some(_) = left else {
-        return Verdict::NoRoom;
-    };
+    left.ok_or(CallError::NoRoom)?;
     if read::word(words, 3) - read::word(words, 0) < writes {
-        return Verdict::NoRoom;
+        return Err(CallError::NoRoom);
     }
     if !group_judge::has_sequences(words[LAST], writes) {
-        return Verdict::NoSequence;
+        return Err(CallError::NoSequence);
     }
-    Verdict::Accepted
+    Ok(())
 }
 
-// The answer after a verdict, with the reply that was put: 6 and 7 come before 3, and clear the buffer.
-pub fn verdict_answer(out: &mut [u8], verdict: Verdict, put: Option<usize>, used: usize) -> Answer
-    ensures value { result ≡ verdict_answer verdict put used }
-    ensures out_after { out.new ≡ buffer_after verdict out.old }
+// The answer after that, with the reply that was put: an error of the room comes before a reply that is too long, and clears the buffer.
+pub fn room_answer(
+    out: &mut [u8],
+    checked: Result<(), CallError>,
+    put: Option<usize>,
+    used: usize,
+) -> Result<Answer, CallError>
+    ensures value { (v : Verdict) → number_of checked ≡ verdict_byte v → answer_numbers result ≡ verdict_answer v put used }
+    ensures out_after { (v : Verdict) → number_of checked ≡ verdict_byte v → out.new ≡ buffer_after v out.old }
 {
-    let number = group_judge::verdict_byte(verdict);
-    if number != 0 {
-        return command_answer::refuse(out, number as u64);
+    if let Err(error) = checked {
+        base_writing::clear(out);
+        return Err(error);
     }
     command_answer::put_answer(put, used)
 }

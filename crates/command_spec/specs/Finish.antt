@@ -4,7 +4,7 @@ use Rattle.base_key.specs.Bytes.{Bytes}
 use Rattle.resp_spec.specs.Reply.{encode}
 use Rattle.store_memtable.specs.Versions.{Store}
 use Rattle.store_memtable.specs.Layout.{leave_words, leave_bytes}
-use Rattle.command_spec.specs.declared.Answer.{Answer}
+use Rattle.command_spec.specs.Numbers.{AnswerNumbers}
 use Rattle.command_spec.specs.Session.{Session, Result, number, reply, Done}
 use Rattle.command_spec.specs.Sessions.{session_words, session_bytes}
 
@@ -39,11 +39,11 @@ unfoldable pub reply_buffer : ℕ → Bytes → Bytes
 reply_buffer room b = b ++ replicate (room - length b) 0
 
 -- WHAT THE CODE LEAVES. The struct that it returns
-abbrev pub answer_served : Served → Answer
+abbrev pub answer_served : Served → AnswerNumbers
 answer_served d = record { number = d.number; used = d.used; reply = length d.reply }
 
 -- `out` is the reply buffer, before and after
-pub record Says (d : Served) (out : Bytes) (r : Answer) (out' : Bytes) : Type 0 where
+pub record Says (d : Served) (out : Bytes) (r : AnswerNumbers) (out' : Bytes) : Type 0 where
   pub answer : r ≡ answer_served d
   pub reply : out' ≡ reply_buffer (length out) d.reply
 

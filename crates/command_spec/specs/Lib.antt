@@ -8,7 +8,9 @@ pub mod Held
 pub mod Lent
 pub mod Names
 pub mod Opens
+pub mod Numbers
 pub mod Places
+pub mod Requests
 pub mod Session
 pub mod Sessions
 pub mod Watch

@@ -1,5 +1,5 @@
 -- Keys in tables of lengths and sequences and the bytes they lie in, one behind the other, and what adding keys to them answers.
-use Rattle.std.specs.Prelude.{ℕ, ◌≤◌, ◌≡◌, true, false, List, [], ◌∷◌, ◌++◌, map, length, take, drop, set}
+use Rattle.std.specs.Prelude.{ℕ, ◌≤◌, ◌≡◌, true, List, [], ◌∷◌, ◌++◌, map, length, take, drop, set}
 use Rattle.base_key.specs.Bytes.{Bytes, over_front, concat, total, put_at}
 use Rattle.base_key.specs.Keys.{Key}
 use Rattle.command_spec.specs.Session.{Watching, watched_keys, watched_sequences, Session, add_key, add_keys, watch_fits}
@@ -41,10 +41,6 @@ pub record Holding (js : Watching) (lens lens' seqs seqs' : List ℕ) (text text
   pub table : lens' ≡ over_front (map length (watched_keys js)) lens
   pub sequences : seqs' ≡ over_front (watched_sequences js) seqs
   pub bytes : text' ≡ over_front (concat (watched_keys js)) text
-
-abbrev pub GrownTo : Watching → List ℕ → List ℕ → List ℕ → List ℕ → Bytes → Bytes → Option (ℕ × ℕ) → Type 0
-GrownTo js lens lens' seqs seqs' text text' None = watch_fits (watched_keys js) ≡ false
-GrownTo js lens lens' seqs seqs' text text' (Some (n, u)) = Holding js lens lens' seqs seqs' text text' n u
 
 -- what adding asks: room for 32 lengths, 32 sequences and 2,048 bytes, and the keys in it
 pub record WatchTable (lens seqs : List ℕ) (text : Bytes) (count used : ℕ) : Type 0 where

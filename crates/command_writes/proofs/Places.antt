@@ -1,5 +1,5 @@
--- Laws of the place of a key among ascending writes: the search by halves, what is found there, and what an update changes there. Assumes nothing.
-use Prim.Native.Nat.{ℕ, zero, suc, ◌+◌, ◌-◌, ◌*◌, ◌/◌, ◌≤◌, ◌<◌}
+-- Laws of the place of a key among ascending writes: which rows are before it, what is found there, and what an update changes there. Assumes nothing.
+use Prim.Native.Nat.{ℕ, zero, suc, ◌+◌, ◌-◌, ◌*◌, ◌≤◌, ◌<◌}
 use native.Mathlib.Nat.{add-zero, zero-add, eq-or-lt_of_le}
 use native.Mathlib.Omega.{arith}
 use mathlib.Core.Path.{◌≡◌, refl, sym, ap, ◌∙◌, subst}
@@ -8,7 +8,8 @@ use mathlib.Core.Bool.{Bool, true, false, cond}
 use mathlib.Core.List.{List, [], ◌∷◌, ◌++◌}
 use Rattle.std.specs.Prelude.{Option, None, Some}
 use lib.ListN.{take, drop}
-use borrow.Author.Tests.{ltb-true, lt-ltb}
+use borrow.Author.Tests.{ltb-true, lt-ltb, le-ltb}
+use lib.Dec.{ltb}
 use Rattle.base_key.specs.Bytes.{Bytes, ◌and◌}
 use Rattle.base_key.specs.Keys.{Key, compare_keys, is_less, key_below, same_key}
 use Rattle.base_key.proofs.Keys.{less_is, turned, compare_turned, compare_trans, compare_refl, key_swap, same_is, same_less}
@@ -33,7 +34,7 @@ below_trans : (a b k : Key) → compare_keys a b ≡ Less → key_below b k ≡ 
 unfolding key_below
 below_trans a b k p e = ap is_less (compare_trans a b k p (less_is _ e))
 
--- THE SEARCH BY HALVES
+-- THE PLACE
 module _ (f : ℕ → Write) (k : Key) where
   abbrev here : ℕ → Bool
   here j = key_below (f j).0 k
@@ -88,40 +89,15 @@ module _ (f : ℕ → Write) (k : Key) where
           ap here e ∙ ih (omega arith)
       go false p h ih = ap here (add-zero i) ∙ p
 
--- the place lies between low and high
-pub record Halving (w : List ℕ) (d : Bytes) (n : ℕ) (k : Key) (low high : ℕ) : Type 0 where
-  pub above : low ≤ place_among k (own_writes w d n)
-  pub below : place_among k (own_writes w d n) ≤ high
-  pub within : high ≤ n
-
-module _ {w : List ℕ} {d : Bytes} {n : ℕ} {k : Key} where
-  pub halving_all : Halving w d n k 0 n
+-- the rows before the place come before the key, and no others
+module _ (w : List ℕ) (d : Bytes) (n : ℕ) (k : Key) where
+  pub place_splits : {i : ℕ} → Own w d n → i < n → key_below (write_at w d i).0 k ≡ ltb i (place_among k (own_writes w d n))
   unfolding own_writes
-  halving_all = record { above = omega arith; below = place_fits (write_at w d) k 0 n; within = omega arith }
-
-  module _ {low high : ℕ} {r : Bool} (h : Halving w d n k low high) (o : Own w d n) (l : low < high)
-      (is : r ≡ key_below (write_at w d (low + (high - low) / 2)).0 k) where
-    pub halving_up : r ≡ true → Halving w d n k (low + (high - low) / 2 + 1) high
-    unfolding own_writes
-    halving_up e = record {
-      above = omega (arith, place_over (write_at w d) k 0 n (low + (high - low) / 2) o.rising (omega arith) (omega arith) (sym is ∙ e));
-      below = h.below;
-      within = h.within;
-    }
-
-    pub halving_down : r ≡ false → Halving w d n k low (low + (high - low) / 2)
-    unfolding own_writes
-    halving_down e = record {
-      above = h.above;
-      below = omega (arith, place_under (write_at w d) k 0 n (low + (high - low) / 2) (omega arith) (omega arith) (sym is ∙ e));
-      within = omega arith;
-    }
-
-  pub halving_row : {low high : ℕ} → Own w d n → Halving w d n k low high → low < high → KeyIn w d (4 * (low + (high - low) / 2))
-  halving_row {low} {high} o h l = own_key_in w d o (omega arith)
-
-  pub halving_done : {low high : ℕ} → Halving w d n k low high → high ≤ low → low ≡ place_among k (own_writes w d n)
-  halving_done h l = omega arith
+  place_splits {i} o h = go (key_below (write_at w d i).0 k) refl
+    where
+      go : (t : Bool) → key_below (write_at w d i).0 k ≡ t → t ≡ ltb i (place_among k (list_from (write_at w d) 0 n))
+      go true e = sym (lt-ltb i _ (omega (arith, place_over (write_at w d) k 0 n i o.rising (omega arith) (omega arith) e)))
+      go false e = sym (le-ltb i _ (omega (arith, place_under (write_at w d) k 0 n i (omega arith) (omega arith) e)))
 
 -- WHAT STANDS AT THE PLACE. What is before it changes neither a lookup nor an update.
 find_place : (k : Key) (ws : List Write) → find ws k ≡ find (drop (place_among k ws) ws) k

@@ -2,5 +2,5 @@
 #![tactic(auto)]
 
 pub mod arguments;
-pub mod read;
+pub mod own;
 pub mod write;

@@ -5,9 +5,10 @@ ghost use Rattle.store_memtable.specs.Layout.{value_of_word};
 ghost use Rattle.command_writes.specs.Own.{Own};
 ghost use Rattle.command_writes.specs.Changes.{RowFits, OwnPut};
 
-use crate::read;
+use crate::own::OwnWrites;
+use store_memtable::read;
 
-// Moves the rows from row `from` up to row `to` by one.
+// Moves the rows from row `from` up to row `to` by one: `copy_within`, with what it leaves told in rows.
 fn shift_up(own: &mut [u64], from: usize, to: usize)
     requires from_le_to { from ≤ to }
     requires to_in_bounds { 4 * to + 4 ≤ length own.old }
@@ -30,13 +31,14 @@ fn set_row(
 {
     let row = 4 * i;
     // A `copy_from_slice` of an array of the four was tried: it goes by way of the stack, and took more than twice as long.
-    own[row] = store_memtable::read::wide(key_start);
-    own[row + 1] = store_memtable::read::wide(key_len);
-    own[row + 2] = store_memtable::read::wide(value_start);
-    own[row + 3] = store_memtable::read::wide(word);
+    own[row] = read::wide(key_start);
+    own[row + 1] = read::wide(key_len);
+    own[row + 2] = read::wide(value_start);
+    own[row + 3] = read::wide(word);
 }
 
 // Sets the write of a key, and answers how many rows there are then. `word` is 0 for a tombstone, else the value's length + 1.
+// A struct of `own`, `n` and `data` that keeps `Own` was tried: it does not hold between the shift of the rows and the write of the row.
 pub fn put(
     own: &mut [u64],
     n: usize,
@@ -53,8 +55,9 @@ pub fn put(
 {
     let end = key_start + key_len;
     let name = &data[key_start..end];
-    let i = read::place(own, n, data, name);
-    if read::holds(own, n, data, i, name) {
+    let writes = OwnWrites { own, rows: n, data };
+    let i = writes.place(name);
+    if writes.holds(i, name) {
         set_row(own, i, key_start, key_len, value_start, word);
         return n;
     }

@@ -26,6 +26,7 @@ fn hex(stdout: Stdout, one: u8) {
 }
 
 fn escaped_byte(stdout: Stdout, one: u8) {
+    // A `match`: the input tells which runs, and no function may hand a closure out.
     match one {
         b'\r' => escape(stdout, b'r'),
         b'\n' => escape(stdout, b'n'),
@@ -36,10 +37,8 @@ fn escaped_byte(stdout: Stdout, one: u8) {
 }
 
 pub fn escaped(stdout: Stdout, bytes: &[u8]) {
-    let mut i = 0;
-    while i < bytes.len() {
-        escaped_byte(stdout, bytes[i]);
-        i += 1;
+    for one in bytes {
+        escaped_byte(stdout, *one);
     }
 }
 

@@ -10,17 +10,19 @@ mod replies;
 mod requests;
 
 use command_spec::pattern::Compared;
-use std::io::{Read, Stdin, Stdout};
+use records::Record;
+use std::io::Stdout;
 
 // What a pattern answers to a name, which are two records, and the line's end.
 fn pattern(stdout: Stdout, both: &[u8]) {
-    let one = records::record_at(both, 0);
-    let two = records::record_at(both, one.end);
-    let answer = command_glob::compare(
-        resp_faults::part_of(both, one.bytes),
-        resp_faults::part_of(both, two.bytes),
-    );
-    match answer {
+    let Some((pattern, rest)) = records::split(both) else {
+        return;
+    };
+    let Some((name, _)) = records::split(rest) else {
+        return;
+    };
+    // A `match`: the input tells which runs, and no function may hand a closure out.
+    match command_glob::compare(pattern.bytes, name.bytes) {
         Compared::Matches => lines::text(stdout, b"matches\n"),
         Compared::Differs => lines::text(stdout, b"does not match\n"),
         Compared::DiffersByTheEnd => lines::text(stdout, b"does not match, by the end\n"),
@@ -28,26 +30,24 @@ fn pattern(stdout: Stdout, both: &[u8]) {
 }
 
 // `#` is a label for the line, `?` a pattern and a name, `=` a reply, and a digit a request with so many places.
-fn show(stdout: Stdout, kind: u8, bytes: &[u8]) {
-    match kind {
-        b'#' => lines::text(stdout, bytes),
-        b'?' => pattern(stdout, bytes),
-        b'=' => replies::reply(stdout, bytes),
-        b'2' => requests::request(stdout, bytes, 2),
-        b'4' => requests::request(stdout, bytes, 4),
-        b'8' => requests::request(stdout, bytes, 8),
+fn show(stdout: Stdout, one: Record<'_>) {
+    // A `match`: the input tells which runs, and no function may hand a closure out.
+    match one.kind {
+        b'#' => lines::text(stdout, one.bytes),
+        b'?' => pattern(stdout, one.bytes),
+        b'=' => replies::reply(stdout, one.bytes),
+        b'2' => requests::request(stdout, one.bytes, 2),
+        b'4' => requests::request(stdout, one.bytes, 4),
+        b'8' => requests::request(stdout, one.bytes, 8),
         _ => {}
     }
 }
 
 fn show_all(stdout: Stdout, input: &[u8]) {
-    let mut at = 0;
-    let mut turns = input.len();
-    while 0 < turns {
-        let one = records::record_at(input, at);
-        show(stdout, one.kind, resp_faults::part_of(input, one.bytes));
-        at = one.end;
-        turns -= 1;
+    let mut rest = input;
+    while let Some((one, behind)) = records::split(rest) {
+        show(stdout, one);
+        rest = behind;
     }
 }
 
@@ -55,23 +55,8 @@ fn room() -> [u8; 2097152] {
     [0u8; 2097152]
 }
 
-// Reads until the buffer is full or the input ends, and gives how many bytes were read; a read that fails ends the input.
-fn read_full(mut stdin: Stdin, buffer: &mut [u8]) -> usize
-    ensures { result ≤ length buffer.new }
-{
-    let mut done = 0;
-    while done < buffer.len() {
-        let count = stdin.read(&mut buffer[done..]).unwrap_or(0);
-        if count == 0 {
-            return done;
-        }
-        done += count;
-    }
-    done
-}
-
 fn main(rt: HostRuntime) {
     let mut buffer = room();
-    let n = read_full(rt.stdin(), &mut buffer);
+    let n = base_input::read_full(rt.stdin(), &mut buffer);
     show_all(rt.stdout(), &buffer[..n]);
 }

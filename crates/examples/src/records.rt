@@ -1,51 +1,22 @@
 // A record is a byte that tells its kind, three bytes of length, the highest first, and its bytes.
-ghost use Rattle.std.specs.Prelude.{◌<◌};
+ghost use Rattle.std.specs.Prelude.{◌<◌, length};
+ghost use Rattle.std.specs.Option.{IfSome};
 
-use resp_spec::Span;
-
+// `kind` is the byte of the input: records and the items of a reply each read it by a `match` of their own, which an enum would repeat.
 #[derive(Clone, Copy)]
-pub struct Record {
+pub struct Record<'a> {
     pub kind: u8,
-    pub bytes: Span,
-    pub end: usize,
+    pub bytes: &'a [u8],
 }
 
-pub fn wide(x: u8) -> usize
-    ensures { result < 256 }
+// The record at the front, if it is whole, and what stands behind it.
+pub fn split(input: &[u8]) -> Option<(Record<'_>, &[u8])>
+    ensures { IfSome result (λ p. length p.1.now < length input.now) }
 {
-    x as usize
-}
-
-// A number of three bytes, the highest first.
-fn length(high: u8, middle: u8, low: u8) -> usize {
-    wide(high) * 65536 + wide(middle) * 256 + wide(low)
-}
-
-fn nothing(end: usize) -> Record {
-    Record {
-        kind: 0,
-        bytes: Span { start: end, len: 0 },
-        end,
-    }
-}
-
-// The record at `from`, if it is whole.
-pub fn record_at(input: &[u8], from: usize) -> Record {
-    let all = input.len();
-    if all < 4 {
-        return nothing(all);
-    }
-    if all - 4 < from {
-        return nothing(all);
-    }
-    let len = length(input[from + 1], input[from + 2], input[from + 3]);
-    let start = from + 4;
-    if all - start < len {
-        return nothing(all);
-    }
-    Record {
-        kind: input[from],
-        bytes: Span { start, len },
-        end: start + len,
-    }
+    let [kind, high, middle, low, behind @ ..] = input else {
+        return None;
+    };
+    let len = u32::from_be_bytes([0, *high, *middle, *low]) as usize;
+    let (bytes, rest) = behind.split_at_checked(len)?;
+    Some((Record { kind: *kind, bytes }, rest))
 }

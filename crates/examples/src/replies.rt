@@ -6,24 +6,17 @@ use resp_encode::reply;
 use resp_spec::Letters;
 use std::io::Stdout;
 
-fn sum(a: Option<i64>, b: Option<i64>) -> Option<i64> {
-    let Some(x) = a else {
-        return a;
-    };
-    let Some(y) = b else {
-        return a;
-    };
-    integer::checked_sum(x, y)
-}
-
 // A number, or the sum of two: each is a record.
 fn number(bytes: &[u8]) -> Option<i64> {
-    let one = records::record_at(bytes, 0);
-    let two = records::record_at(bytes, one.end);
-    sum(
-        integer::int_arg(resp_faults::part_of(bytes, one.bytes)),
-        integer::int_arg(resp_faults::part_of(bytes, two.bytes)),
-    )
+    let (one, rest) = records::split(bytes)?;
+    let x = integer::int_arg(one.bytes)?;
+    let Some((two, _)) = records::split(rest) else {
+        return Some(x);
+    };
+    match integer::int_arg(two.bytes) {
+        Some(y) => integer::checked_sum(x, y),
+        None => Some(x),
+    }
 }
 
 // An integer reply for `:`, and otherwise the digits alone.
@@ -45,6 +38,7 @@ fn put_line(mark: u8, out: &mut [u8], text: &[u8]) -> Option<usize> {
 }
 
 fn put_fixed(kind: u8, out: &mut [u8]) -> Option<usize> {
+    // A `match`: the input tells which runs, and no function may hand a closure out.
     match kind {
         b'_' => resp_items::then_nil(out, Some(0)),
         b'0' => reply::put_nil_array(out),
@@ -54,6 +48,7 @@ fn put_fixed(kind: u8, out: &mut [u8]) -> Option<usize> {
 }
 
 fn put_quoted(kind: u8, out: &mut [u8], text: &[u8]) -> Option<usize> {
+    // A `match`: the input tells which runs, and no function may hand a closure out.
     match kind {
         b'u' => command_errors::put_unknown(out, text),
         b'q' => command_errors::put_not_queueable(out, text),
@@ -64,6 +59,7 @@ fn put_quoted(kind: u8, out: &mut [u8], text: &[u8]) -> Option<usize> {
 
 // The head of an array counts the bytes of its item.
 fn put_item(kind: u8, out: &mut [u8], text: &[u8]) -> Option<usize> {
+    // A `match`: the input tells which runs, and no function may hand a closure out.
     match kind {
         b'+' | b'-' => put_line(kind, out, text),
         b'$' => reply::put_bulk(out, text),
@@ -77,27 +73,20 @@ fn put_item(kind: u8, out: &mut [u8], text: &[u8]) -> Option<usize> {
 // The reply into the whole of `out`, and the line's end.
 fn reply_in(stdout: Stdout, out: &mut [u8], bytes: &[u8]) {
     let mut put = Some(0);
-    let mut at = 0;
-    let mut turns = bytes.len();
-    while 0 < turns {
-        let one = records::record_at(bytes, at);
+    let mut rest = bytes;
+    while let Some((one, behind)) = records::split(rest) {
         let from = base_writing::place(put, out.len());
-        let next = put_item(
-            one.kind,
-            &mut out[from..],
-            resp_faults::part_of(bytes, one.bytes),
-        );
+        let next = put_item(one.kind, &mut out[from..], one.bytes);
         put = base_writing::joined(out, put, next);
-        at = one.end;
-        turns -= 1;
+        rest = behind;
     }
     lines::written(stdout, out, put)
 }
 
 pub fn reply(stdout: Stdout, bytes: &[u8]) {
     let mut buffer = [0u8; 256];
-    if 0 < bytes.len() {
-        let spare = 256 - records::wide(bytes[0]);
-        reply_in(stdout, &mut buffer[spare..], &bytes[1..]);
+    if let [size, items @ ..] = bytes {
+        let spare = 256 - usize::from(*size);
+        reply_in(stdout, &mut buffer[spare..], items);
     }
 }

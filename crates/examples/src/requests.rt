@@ -16,17 +16,6 @@ fn fault(stdout: Stdout, input: &[u8], fault: Fault) {
     lines::written(stdout, &buffer, put)
 }
 
-// The part of argument i, if the table has a place for it.
-fn place(places: &[u64], i: usize) -> Span {
-    if i < places.len() / 2 {
-        return Span {
-            start: places[2 * i] as usize,
-            len: places[2 * i + 1] as usize,
-        };
-    }
-    Span { start: 0, len: 0 }
-}
-
 fn argument(stdout: Stdout, bytes: &[u8]) {
     lines::byte(stdout, b' ');
     lines::byte(stdout, b'[');
@@ -40,10 +29,14 @@ fn argument(stdout: Stdout, bytes: &[u8]) {
 }
 
 fn arguments(stdout: Stdout, input: &[u8], places: &[u64], n: usize) {
-    let mut i = 0;
-    while i < n {
-        argument(stdout, resp_faults::part_of(input, place(places, i)));
-        i += 1;
+    for place in places.chunks_exact(2).take(n) {
+        if let [start, len] = *place {
+            let span = Span {
+                start: start as usize,
+                len: len as usize,
+            };
+            argument(stdout, resp_faults::part_of(input, span));
+        }
     }
 }
 
@@ -57,6 +50,7 @@ fn whole(stdout: Stdout, input: &[u8], places: &[u64], n: usize, used: usize) {
 }
 
 fn answer(stdout: Stdout, input: &[u8], places: &[u64], read: Read) {
+    // A `match`: the input tells which runs, and no function may hand a closure out.
     match read {
         Read::Wait => lines::text(stdout, b"wait\n"),
         Read::Faulty(f) => fault(stdout, input, f),

@@ -1,10 +1,11 @@
 -- EXEC is its decision applied. Assumes nothing.
 use Prim.Native.Nat.{ℕ}
+use native.Mathlib.Omega.{arith}
 use mathlib.Core.Path.{◌≡◌, refl, sym, ap, ◌∙◌}
 use mathlib.Core.Bool.{Bool, true, false, cond}
 use mathlib.Core.List.{List, []}
 use mathlib.Core.Logic.{◌⊎◌, inl, inr}
-use Rattle.std.specs.Prelude.{Option, None, Some}
+use Rattle.std.specs.Prelude.{Option, None, Some, Err}
 use lib.Dec.{leb, eqb}
 use lib.ListN.{length}
 use borrow.Author.Tests.{eq-eqb, eqb-true}
@@ -19,9 +20,13 @@ use Rattle.group_spec.specs.Group.{plain, conflicts, has_room, has_sequences, ju
 use Rattle.command_spec.specs.Names.{Args}
 use Rattle.command_spec.specs.Command.{Ran}
 use Rattle.command_spec.specs.Session.{Session, clear, says, Decision, exec_abort, any_moved, verdict_exec, decided, decide, apply, execute}
+use Rattle.command_spec.specs.declared.CallError.{CallError}
+use Rattle.command_spec.specs.declared.CallError.TheVariants as error
+use Rattle.command_spec.specs.Numbers.{error_number}
+use Rattle.exec_decision.specs.Numbers.{preview_numbers}
 use Rattle.command_spec.proofs.SessionLaws.{ran_by, writes_by}
 use Rattle.command_spec.specs.Finish.{silent, fitted, finish_by, finish}
-use Rattle.exec_decision.specs.Decided.{Decided, stopped, decided_reply, decided_by, decide_queue, decide_by, decide_exec, applied, preview_decided}
+use Rattle.exec_decision.specs.Decided.{Decided, stopped, decided_reply, decided_by, decide_queue, decide_by, decide_exec, applied, refused_preview, preview_decided}
 
 module _ (room used : ℕ) (st : Store) (s : Session) where
   -- a reply, with what it writes
@@ -66,6 +71,22 @@ module _ (used : ℕ) (f : Decided) (st : Store) (s : Session) where
   pub preview_last : f.number ≡ 0 → (preview_decided st.last f).last ≡ (applied used f st s).store.last
   unfolding preview_decided applied
   preview_last e = rw (eq-eqb f.number 0 e) (sym (commit_last f.writes st))
+
+-- AN ERROR has a number
+pub error_numbered : (e : CallError) → error_number e ≡ 0 → ⊥
+error_numbered error.NoSession z = absurd (omega arith)
+error_numbered error.TooManyArguments z = absurd (omega arith)
+error_numbered error.ReplyTooLong z = absurd (omega arith)
+error_numbered error.QueueFull z = absurd (omega arith)
+error_numbered error.WatchFull z = absurd (omega arith)
+error_numbered error.NoRoom z = absurd (omega arith)
+error_numbered error.NoSequence z = absurd (omega arith)
+error_numbered error.GroupUnfit z = absurd (omega arith)
+error_numbered error.MemoryUnfit z = absurd (omega arith)
+
+-- A PREVIEW that is an error tells its number alone
+pub preview_refused : (e : CallError) → preview_numbers (Err e) ≡ refused_preview (error_number e)
+preview_refused e = refl
 
 -- A NUMBER comes without reply
 abbrev pub Silent : Decided → Type 0

@@ -11,7 +11,7 @@ use Rattle.group_spec.specs.Group.{verdict_byte}
 use Rattle.command_spec.specs.Names.{Args}
 use Rattle.command_spec.specs.Session.{Session, clear, Decision, decide}
 use Rattle.command_spec.specs.Finish.{Served, silent}
-use Rattle.exec_decision.specs.declared.Preview.{Preview}
+use Rattle.exec_decision.specs.Numbers.{PreviewNumbers}
 
 -- EXEC DECIDED, what `decide` gives as bytes: 0 or a number, the verdict byte (255: none is reached), the reply, and the writes
 pub record Decided : Type 0 where
@@ -55,10 +55,10 @@ applied used d st s =
     cond (eqb d.number 0) (record { number = 0; used = used; reply = d.reply; store = commit d.writes st; session = clear }) (silent d.number 0 st s)
 
 -- A PREVIEW: the struct that it returns. With a number: verdict 255 and last sequence 0
-abbrev pub refused_preview : ℕ → Preview
+abbrev pub refused_preview : ℕ → PreviewNumbers
 refused_preview n = record { number = n; verdict = 255; reply = 0; last = 0 }
 
 -- of what was decided, on a store with this last sequence: the last sequence that EXEC would leave
-unfoldable pub preview_decided : ℕ → Decided → Preview
+unfoldable pub preview_decided : ℕ → Decided → PreviewNumbers
 preview_decided last d =
     cond (eqb d.number 0) (record { number = 0; verdict = d.verdict; reply = length d.reply; last = last + length d.writes }) (refused_preview d.number)

@@ -1,7 +1,7 @@
 -- The end of an EXEC, from the answer, the commit and the session cleared. Assumes nothing.
 use Prim.Native.Nat.{ℕ, ◌-◌, ◌≤◌}
 use native.Mathlib.Omega.{arith}
-use mathlib.Core.Path.{◌≡◌, sym, ap, ◌∙◌, subst}
+use mathlib.Core.Path.{◌≡◌, refl, sym, ap, ◌∙◌, subst}
 use mathlib.Core.List.{List, ◌++◌}
 use lib.ListN.{length, replicate}
 use Rattle.base_key.specs.Bytes.{Bytes}
@@ -12,24 +12,28 @@ use Rattle.store_memtable.specs.Rows.{Valid}
 use Rattle.store_memtable.proofs.Sequence.{leave_words_same, leave_bytes_same}
 use Rattle.group_spec.specs.Members.{list_from, write_at}
 use Rattle.command_spec.specs.declared.Answer.{Answer}
+use Rattle.command_spec.specs.declared.CallError.{CallError}
+use Rattle.command_spec.specs.Numbers.{AnswerNumbers, answer_numbers}
 use Rattle.command_spec.specs.Session.{clear}
 use Rattle.command_spec.specs.Sessions.{session_from}
 use Rattle.command_spec.specs.Held.{Held, Left, cleared}
 use Rattle.command_spec.specs.Finish.{Served, silent, reply_buffer}
 use Rattle.session_memory.proofs.Kept.{words_kept, bytes_kept, bytes_cleared}
-use Rattle.store_memtable.proofs.TableLaws.{Ascending}
 use Rattle.command_writes.specs.Own.{own_writes, Own}
-use Rattle.command_writes.proofs.Growing.{none_writes}
-use Rattle.command_answer.specs.Answers.{refusal}
-use Rattle.exec_decision.proofs.Executes.{applied_zero, applied_number}
+use Rattle.command_writes.proofs.Growing.{none_writes, own_count, own_sizes}
+use Rattle.store_memtable.proofs.Sequence.{Holds, holds_first, holds_valid, holds_commit, holds_count, holds_used, holds_most_versions, holds_most_bytes}
+use Rattle.group_spec.specs.Settling.{RoomFor, sizes_from}
+use Rattle.command_answer.specs.Answers.{refusal, put_answer}
+use Rattle.exec_decision.proofs.Executes.{applied_zero, applied_number, error_numbered}
 use Rattle.exec_finish.specs.declared.Prepared.{Prepared}
+use Rattle.exec_finish.specs.Numbers.{prepared_numbers}
 use Rattle.exec_finish.specs.Leaving.{Leaves, Closes}
 use Rattle.exec_finish.specs.Deciding.{Applies}
 use Rattle.command_answer.proofs.Finish.{finish_wrote, says_wrote, finish_full, full_cleared, says_number}
-use Rattle.std.specs.Prelude.{Option, None, Some}
+use Rattle.std.specs.Prelude.{Option, None, Some, Ok, Err}
 
 -- the same call under another name
-renamed : {x y : Served} (out : Bytes) (w b s : List ℕ) (sb : Bytes) {r : Answer} {out' : Bytes} {w' b' s' : List ℕ} → x ≡ y → Leaves y out w b s sb r out' w' b' s' → Leaves x out w b s sb r out' w' b' s'
+renamed : {x y : Served} (out : Bytes) (w b s : List ℕ) (sb : Bytes) {r : AnswerNumbers} {out' : Bytes} {w' b' s' : List ℕ} → x ≡ y → Leaves y out w b s sb r out' w' b' s' → Leaves x out w b s sb r out' w' b' s'
 renamed out w b s sb {r} {out'} {w'} {b'} {s'} e l = subst (λ (t : Served). Leaves t out w b s sb r out' w' b' s') (sym e) l
 
 -- a number that leaves all
@@ -44,7 +48,7 @@ all_left n out w b s sb {out'} v h z = record {
 
 -- WITHOUT WRITES
 module _ {put : Option ℕ} (used : ℕ) {s : List ℕ} where
-  pub closes_wrote : {s' : List ℕ} {n : ℕ} → put ≡ Some n → Left cleared s s' → Closes put used s s' (record { number = 0; used = used; reply = n })
+  closes_wrote : {s' : List ℕ} {n : ℕ} → put ≡ Some n → Left cleared s s' → Closes put used s s' (record { number = 0; used = used; reply = n })
   closes_wrote e l = record {
     leaves = λ x w b out mid sb v z p h.
         renamed out w b s sb (finish_wrote x p used (store_in w b) (store_in w b) (session_from s sb) clear e)
@@ -56,30 +60,42 @@ module _ {put : Option ℕ} (used : ℕ) {s : List ℕ} where
         });
   }
 
-  pub closes_full : {r : Answer} → put ≡ None → r ≡ refusal 3 → Closes put used s s r
+  closes_full : {r : AnswerNumbers} → put ≡ None → r ≡ refusal 3 → Closes put used s s r
   closes_full {r} e r-is = record {
     leaves = λ x w b out mid sb v z p h.
         renamed out w b s sb (finish_full x p used (store_in w b) (store_in w b) (session_from s sb) clear e)
         (rw r-is (all_left 3 out w b s sb v h (full_cleared x p used (store_in w b) (store_in w b) (session_from s sb) clear e)));
   }
 
+-- by what the answer to the reply is
+pub closes_answered : (put : Option ℕ) (used : ℕ) {s s' : List ℕ} {a : Answer} → answer_numbers (Ok a) ≡ put_answer put used → Left cleared s s' → Closes put used s s' (answer_numbers (Ok a))
+unfolding put_answer
+closes_answered (Some n) used {s} {s'} e l = subst (λ (x : AnswerNumbers). Closes (Some n) used s s' x) (sym e) (closes_wrote used refl l)
+closes_answered None used e l = let z : ◌≡◌ {A = ℕ} 0 3 = ap (λ (x : AnswerNumbers). x.number) e in absurd (omega arith)
+
+pub closes_stopped : (put : Option ℕ) (used : ℕ) {s : List ℕ} (e : CallError) → answer_numbers (Err e) ≡ put_answer put used → Closes put used s s (answer_numbers (Err e))
+unfolding put_answer
+closes_stopped (Some n) used e q = absurd (error_numbered e (ap (λ (x : AnswerNumbers). x.number) q))
+closes_stopped None used e q = closes_full used refl q
+
 -- WHAT WAS DECIDED, APPLIED
-module _ (ws : List Write) {d : Prepared} (used : ℕ) (w b : List ℕ) {s : List ℕ} where
-  pub applies_number : {r : Answer} → (d.number ≡ 0 → ⊥) → r ≡ refusal d.number → Valid w b → Applies ws d used w b s w b s r
+module _ (ws : List Write) (used : ℕ) (w b : List ℕ) {s : List ℕ} where
+  -- an error leaves all
+  pub applies_error : (e : CallError) → Valid w b → Applies ws (prepared_numbers (Err e)) used w b s w b s (answer_numbers (Err e))
   unfolding reply_buffer
-  applies_number nz r-is v = record {
+  applies_error e v = record {
     leaves = λ f out out' sb h n m ws-is z q.
-        let nz' : f.number ≡ 0 → ⊥ = λ e. nz (n ∙ e) in
+        let nz : f.number ≡ 0 → ⊥ = λ i. error_numbered e (n ∙ i) in
         let k : length out - 0 ≡ length out = omega arith in
-        renamed out w b s sb (applied_number used f (store_in w b) (session_from s sb) nz')
-        (rw (r-is, n) (all_left f.number out w b s sb v h (z ∙ ap (λ (x : Bytes). x ++ replicate (length out - length x) 0) (q nz') ∙ ap (λ (i : ℕ). replicate i 0) k)));
+        renamed out w b s sb (applied_number used f (store_in w b) (session_from s sb) nz)
+        (rw n (all_left f.number out w b s sb v h (z ∙ ap (λ (x : Bytes). x ++ replicate (length out - length x) 0) (q nz) ∙ ap (λ (i : ℕ). replicate i 0) k)));
   }
 
-  pub applies_writes : {w' b' s' : List ℕ} → d.number ≡ 0 → w' ≡ leave_words (commit ws (store_in w b)) w → b' ≡ leave_bytes (commit ws (store_in w b)) b → Left cleared s s'
-      → Applies ws d used w b s w' b' s' (record { number = 0; used = used; reply = d.reply })
-  applies_writes zero w-is b-is l = record {
+  pub applies_writes : (p : Prepared) {w' b' s' : List ℕ} → w' ≡ leave_words (commit ws (store_in w b)) w → b' ≡ leave_bytes (commit ws (store_in w b)) b → Left cleared s s'
+      → Applies ws (prepared_numbers (Ok p)) used w b s w' b' s' (record { number = 0; used = used; reply = p.reply })
+  applies_writes p w-is b-is l = record {
     leaves = λ f out out' sb h n m ws-is z q.
-        renamed out w b s sb (applied_zero used f (store_in w b) (session_from s sb) (sym n ∙ zero))
+        renamed out w b s sb (applied_zero used f (store_in w b) (session_from s sb) (sym n))
         (record {
           says = record { answer = ap (λ (k : ℕ). record { number = 0; used = used; reply = k }) m; reply = z };
           store = record { words = w-is ∙ ap (λ (x : List Write). leave_words (commit x (store_in w b)) w) ws-is; bytes = b-is ∙ ap (λ (x : List Write). leave_bytes (commit x (store_in w b)) b) ws-is };
@@ -88,20 +104,16 @@ module _ (ws : List Write) {d : Prepared} (used : ℕ) (w b : List ℕ) {s : Lis
         });
   }
 
--- THE OWN WRITES as a list
-pub own_listed : (own : List ℕ) (d : Bytes) (rows : ℕ) → Own own d rows → Ascending (list_from (write_at own d) 0 rows)
+-- THE OWN WRITES as a list: committed, they leave a valid store
+pub own_committed : (own : List ℕ) (d : Bytes) (rows : ℕ) (w b : List ℕ) {w' b' : List ℕ} → Own own d rows → Valid w b → RoomFor w rows (sizes_from own 0 rows)
+    → w' ≡ leave_words (commit (list_from (write_at own d) 0 rows) (store_in w b)) w → b' ≡ leave_bytes (commit (list_from (write_at own d) 0 rows) (store_in w b)) b → Valid w' b'
 unfolding own_writes
-own_listed own d rows o = o.rising
-
-pub own_written : (own : List ℕ) (d : Bytes) (rows : ℕ) (w b : List ℕ) {w' : List ℕ} → w' ≡ leave_words (commit (list_from (write_at own d) 0 rows) (store_in w b)) w
-    → w' ≡ leave_words (commit (own_writes own d rows) (store_in w b)) w
-unfolding own_writes
-own_written own d rows w b e = e
-
-pub own_bytes : (own : List ℕ) (d : Bytes) (rows : ℕ) (w b : List ℕ) {b' : List ℕ} → b' ≡ leave_bytes (commit (list_from (write_at own d) 0 rows) (store_in w b)) b
-    → b' ≡ leave_bytes (commit (own_writes own d rows) (store_in w b)) b
-unfolding own_writes
-own_bytes own d rows w b e = e
+own_committed own d rows w b o v r p q =
+    let h : Holds (store_in w b) w b w b = holds_first w b v in
+    holds_valid (holds_commit h (own_writes own d rows) (record {
+      counts = omega (arith, r.rows_free, own_count own d rows, holds_count h, holds_most_versions h);
+      sizes = omega (arith, r.bytes_free, own_sizes o, holds_used h, holds_most_bytes h);
+    }) p q)
 
 -- without writes the store stays
 no_commit : (own : List ℕ) (d : Bytes) (rows : ℕ) (w b : List ℕ) → rows ≤ 0 → commit (own_writes own d rows) (store_in w b) ≡ store_in w b

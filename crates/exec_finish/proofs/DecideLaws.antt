@@ -27,7 +27,7 @@ use Rattle.command_writes.proofs.Growing.{none_writes, own_none, own_count, own_
 use Rattle.command_answer.proofs.Finish.{says_wrote, says_number}
 use Rattle.exec_decision.specs.Decided.{stopped, decided_reply}
 use Rattle.exec_decision.proofs.Executes.{judged_to}
-use Rattle.exec_finish.specs.declared.Prepared.{Prepared}
+use Rattle.exec_finish.specs.Numbers.{PreparedNumbers}
 use Rattle.exec_finish.specs.Deciding.{halted, prepared_by, judged_by, judged_buffer, Judges, Decides}
 use Rattle.std.specs.Prelude.{Option, None, Some}
 
@@ -38,8 +38,8 @@ no_rows w b own v h = record { rows_free = omega (arith, v.count_fits); bytes_fr
 
 module _ (w own : List ℕ) (d out : Bytes) (empty : RoomFor w 0 (sizes_from own 0 0)) where
   -- a number
-  halts : (n : ℕ) {r : Prepared} {out' : Bytes} → r ≡ halted n → out' ≡ replicate (length out) 0 → Decides (stopped n) w out own d r out'
-  halts n {r} {out'} r-is z = subst (λ (x : Prepared). Decides (stopped n) w out own d x out') (sym r-is) (record {
+  halts : (n : ℕ) {r : PreparedNumbers} {out' : Bytes} → r ≡ halted n → out' ≡ replicate (length out) 0 → Decides (stopped n) w out own d r out'
+  halts n {r} {out'} r-is z = subst (λ (x : PreparedNumbers). Decides (stopped n) w out own d x out') (sym r-is) (record {
     number = refl;
     verdict = refl;
     size = refl;
@@ -53,7 +53,7 @@ module _ (w own : List ℕ) (d out : Bytes) (empty : RoomFor w 0 (sizes_from own
   -- a reply that was put
   module _ (x : Reply) (v : Verdict) (rows end : ℕ) (o : Own own (take end d) rows) (fits : end ≤ length d) (space : RoomFor w rows (sizes_from own 0 rows))
       {put : Option ℕ} {mid : Bytes} (z : out ≡ replicate (length out) 0) (p : Puts (encode x) out put mid) where
-    tells : {r : Prepared} → r ≡ prepared_by put (verdict_byte v) rows end → Decides (decided_reply (length out) v (encode x) (own_writes own (take end d) rows)) w out own d r mid
+    tells : {r : PreparedNumbers} → r ≡ prepared_by put (verdict_byte v) rows end → Decides (decided_reply (length out) v (encode x) (own_writes own (take end d) rows)) w out own d r mid
     unfolding prepared_by decided_reply
     tells {r} r-is = go put refl r-is
       where
@@ -64,7 +64,7 @@ module _ (w own : List ℕ) (d out : Bytes) (empty : RoomFor w 0 (sizes_from own
         go (Some n) e i =
             let h = was_wrote p e in
             subst Goal (sym (le-leb (length (encode x)) (length out) (omega (arith, h.count, h.fits))))
-            (subst (λ (y : Prepared). Decides (record { number = 0; verdict = verdict_byte v; reply = encode x; writes = own_writes own (take end d) rows }) w out own d y mid) (sym i) (record {
+            (subst (λ (y : PreparedNumbers). Decides (record { number = 0; verdict = verdict_byte v; reply = encode x; writes = own_writes own (take end d) rows }) w out own d y mid) (sym i) (record {
               number = refl;
               verdict = refl;
               size = h.count;
@@ -77,7 +77,7 @@ module _ (w own : List ℕ) (d out : Bytes) (empty : RoomFor w 0 (sizes_from own
         go None e i = let h = was_full p e in subst Goal (sym (lt-leb (length (encode x)) (length out) h.long)) (halts 3 i h.buffer)
 
 -- without writes
-pub decides_prepared : (w b own : List ℕ) (d out : Bytes) (x : Reply) (v : Verdict) {put : Option ℕ} {mid : Bytes} {r : Prepared} → Valid w b → last_word w < 2 ^ 64 → out ≡ replicate (length out) 0
+pub decides_prepared : (w b own : List ℕ) (d out : Bytes) (x : Reply) (v : Verdict) {put : Option ℕ} {mid : Bytes} {r : PreparedNumbers} → Valid w b → last_word w < 2 ^ 64 → out ≡ replicate (length out) 0
     → Puts (encode x) out put mid → r ≡ prepared_by put (verdict_byte v) 0 0 → Decides (decided_reply (length out) v (encode x) []) w out own d r mid
 decides_prepared w b own d out x v {put} {mid} {r} ok h z p r-is =
     let e = no_rows w b own ok h in
@@ -97,7 +97,7 @@ module _ (w b own : List ℕ) (d out : Bytes) (x : Reply) (rows end : ℕ) (ok :
   unfolding has_sequences store_in
   sequences_agree = λ z. ltb (last_word w + own_count own (take end d) rows z) (2 ^ 64)
 
-  pub decides_judged : {r : Prepared} {out' : Bytes} → Judges (room_in w rows (sizes_from own 0 rows)) (ltb (last_word w + rows) (2 ^ 64)) put rows end mid r out'
+  pub decides_judged : {r : PreparedNumbers} {out' : Bytes} → Judges (room_in w rows (sizes_from own 0 rows)) (ltb (last_word w + rows) (2 ^ 64)) put rows end mid r out'
       → Decides (judged_to (length out) (encode x) (store_in w b) (own_writes own (take end d) rows)) w out own d r out'
   unfolding judged_to judged_by judged_buffer
   decides_judged {r} {out'} j = go (room_in w rows (sizes_from own 0 rows)) (ltb (last_word w + rows) (2 ^ 64)) refl refl room_agrees sequences_agree j.prepared j.buffer

@@ -1,3 +1,4 @@
 -- The definitions of this crate.
+pub mod Numbers
 pub mod Leaving
 pub mod Deciding

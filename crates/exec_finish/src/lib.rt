@@ -1,91 +1,85 @@
 // The end of an EXEC: what is decided of it, and that applied: the answer, the commit, and the session cleared.
 #![tactic(auto)]
 
-ghost use Rattle.std.specs.Prelude.{◌+◌, ◌*◌, ◌^◌, ◌≤◌, ◌≡◌, ltb, length};
+ghost use Rattle.std.specs.Prelude.{◌+◌, ◌*◌, ◌^◌, ◌<◌, ◌≤◌, ◌≡◌, Ok, ltb, length};
 ghost use Rattle.store_memtable.specs.Versions.{commit};
-ghost use Rattle.store_memtable.specs.Layout.{last_word, store_in, leave_words, leave_bytes};
-ghost use Rattle.store_memtable.specs.Rows.{Valid, room_in};
+ghost use Rattle.store_memtable.specs.Layout.{last_word};
+ghost use Rattle.store_memtable.specs.Rows.{room_in};
+ghost use Rattle.store_commit.specs.Leaving.{Leaves, SameLent, store_of};
+ghost use Rattle.group_spec.specs.Group.{verdict_byte};
 ghost use Rattle.group_spec.specs.Settling.{RoomFor, sizes_from};
-ghost use Rattle.command_writes.specs.Own.{own_writes, Own};
+ghost use Rattle.command_writes.specs.Own.{own_writes};
 ghost use Rattle.exec_finish.specs.Leaving.{Closes};
-ghost use Rattle.exec_finish.specs.Deciding.{Applies, Counted, Judges, halted, prepared_by};
+ghost use Rattle.exec_finish.specs.Deciding.{Applies, Counted, Judges, prepared_by};
+ghost use Rattle.command_spec.specs.Numbers.{answer_numbers};
+ghost use Rattle.exec_finish.specs.Numbers.{prepared_numbers};
 
-use command_spec::Answer;
-use exec_decision::{ACCEPTED, NONE_REACHED};
+use command_spec::{Answer, CallError};
+use command_writes::own::OwnWrites;
+use group_spec::Verdict;
+use group_spec::parts::Parts;
+use store_commit::lent::StoreMut;
 use store_memtable::LAST;
 
-// An EXEC that is decided and ready to be applied: 0 or a number, the verdict (255: none is reached), the length of the reply, the rows of the
-// own writes, and the end of the data that they lie in.
+// An EXEC that is decided and ready to be applied: the verdict (`NotTaken`: none is reached), the length of the reply, the rows of the own writes,
+// and the end of the data that they lie in.
 #[derive(Clone, Copy)]
 pub struct Prepared {
-    pub number: u64,
-    pub verdict: u64,
+    pub verdict: Verdict,
     pub reply: usize,
     pub rows: usize,
     pub end: usize,
 }
 
-// The answer of a reply that was put, with the session cleared: 3 where it does not fit, and then all stays.
-pub fn close(session_words: &mut [u64], put: Option<usize>, used: usize) -> Answer
+// The answer of a reply that was put, with the session cleared. Where it does not fit, all stays.
+pub fn close(
+    session_words: &mut [u64],
+    put: Option<usize>,
+    used: usize,
+) -> Result<Answer, CallError>
     requires { length session_words.old ≡ 644 }
-    ensures { Closes put used session_words.old session_words.new result }
+    ensures { Closes put used session_words.old session_words.new (answer_numbers result) }
 {
-    let Some(n) = put else {
-        return command_answer::refusal(3);
-    };
+    let answer = command_answer::put_answer(put, used)?;
     session_flags::clear(session_words);
-    Answer {
-        number: 0,
-        used,
-        reply: n,
-    }
+    Ok(answer)
 }
 
 // Commits the own writes, if there are any.
-fn commit_own(own: &[u64], rows: usize, data: &[u8], words: &mut [u64], bytes: &mut [u8])
-    requires own { Own own.now «data».now rows }
-    requires valid { Valid words.old bytes.old }
-    requires room_for { RoomFor words.old rows (sizes_from own.now 0 rows) }
-    ensures words_after { words.new ≡ leave_words (commit (own_writes own.now «data».now rows) (store_in words.old bytes.old)) words.old }
-    ensures bytes_after { bytes.new ≡ leave_bytes (commit (own_writes own.now «data».now rows) (store_in words.old bytes.old)) bytes.old }
+fn commit_own(writes: &OwnWrites, store: &mut StoreMut)
+    requires { 0 < writes.now.rows → RoomFor store.old.words.now writes.now.rows (sizes_from writes.now.own.now 0 writes.now.rows) }
+    ensures { Leaves (commit (own_writes writes.now.own.now writes.now.«data».now writes.now.rows) (store_of store.old)) store.old store.new }
 {
-    if rows > 0 {
-        group_merge::commit_ascending(own, data, 0, rows, words, bytes);
+    if writes.rows > 0 {
+        let parts = Parts {
+            table: writes.own,
+            data: writes.data,
+        };
+        group_merge::commit_ascending(parts, 0, writes.rows, store.words, store.bytes);
     }
 }
 
-// A number.
-fn halt(number: u64) -> Prepared
-    ensures { result ≡ halted number }
+// What is decided where a reply was put, if it fits.
+#[tactic(auto, unfolding(crate::specs::Deciding::prepared_by, crate::specs::Numbers::prepared_numbers))]
+pub fn prepare(
+    put: Option<usize>,
+    verdict: Verdict,
+    rows: usize,
+    end: usize,
+) -> Result<Prepared, CallError>
+    ensures { prepared_numbers result ≡ prepared_by put (verdict_byte verdict) rows end }
 {
-    Prepared {
-        number,
-        verdict: NONE_REACHED,
-        reply: 0,
-        rows: 0,
-        end: 0,
-    }
-}
-
-// What is decided where a reply was put: 3 where it does not fit.
-#[tactic(auto, unfolding(crate::specs::Deciding::prepared_by))]
-pub fn prepare(put: Option<usize>, verdict: u64, rows: usize, end: usize) -> Prepared
-    ensures { result ≡ prepared_by put verdict rows end }
-{
-    let Some(len) = put else {
-        return halt(3);
-    };
-    Prepared {
-        number: 0,
+    let reply = put.ok_or(CallError::ReplyTooLong)?;
+    Ok(Prepared {
         verdict,
-        reply: len,
+        reply,
         rows,
         end,
-    }
+    })
 }
 
-// What is decided of an EXEC whose queue has run: 6 and 7 come before 3.
-#[tactic(auto, unfolding(crate::specs::Deciding::judged_by, crate::specs::Deciding::judged_buffer))]
+// What is decided of an EXEC whose queue has run: room and sequences come before the reply.
+#[tactic(auto, unfolding(crate::specs::Deciding::judged_by, crate::specs::Deciding::judged_buffer, crate::specs::Numbers::prepared_numbers))]
 pub fn judge(
     own: &[u64],
     rows: usize,
@@ -93,45 +87,38 @@ pub fn judge(
     words: &[u64],
     out: &mut [u8],
     put: Option<usize>,
-) -> Prepared
+) -> Result<Prepared, CallError>
     requires rows_in_bounds { 4 * (0 + rows) ≤ length own.now }
     requires counted { Counted words.now }
-    ensures { Judges (room_in words.now rows (sizes_from own.now 0 rows)) (ltb (last_word words.now + rows) (2 ^ 64)) put rows end out.old result out.new }
+    ensures { Judges (room_in words.now rows (sizes_from own.now 0 rows)) (ltb (last_word words.now + rows) (2 ^ 64)) put rows end out.old (prepared_numbers result) out.new }
 {
     if !group_judge::has_room(own, 0, rows, words) {
         base_writing::clear(out);
-        return halt(6);
+        return Err(CallError::NoRoom);
     }
     if !group_judge::has_sequences(words[LAST], rows) {
         base_writing::clear(out);
-        return halt(7);
+        return Err(CallError::NoSequence);
     }
-    prepare(put, ACCEPTED, rows, end)
+    prepare(put, Verdict::Accepted, rows, end)
 }
 
-// Applies what was decided: the own writes are committed and the session is cleared. A number leaves all.
+// Applies what was decided: the own writes are committed and the session is cleared.
 pub fn apply(
     session_words: &mut [u64],
-    own: &[u64],
-    data: &[u8],
-    words: &mut [u64],
-    bytes: &mut [u8],
+    writes: &OwnWrites,
+    store: &mut StoreMut,
     prepared: Prepared,
     used: usize,
 ) -> Answer
     requires session_words_len { length session_words.old ≡ 644 }
-    requires own { Own own.now «data».now prepared.rows }
-    requires valid { Valid words.old bytes.old }
-    requires room_for { RoomFor words.old prepared.rows (sizes_from own.now 0 prepared.rows) }
-    ensures { Applies (own_writes own.now «data».now prepared.rows) prepared used words.old bytes.old session_words.old words.new bytes.new session_words.new result }
+    requires room_for { 0 < writes.now.rows → RoomFor store.old.words.now writes.now.rows (sizes_from writes.now.own.now 0 writes.now.rows) }
+    ensures lent { SameLent store.old store.new }
+    ensures applies { Applies (own_writes writes.now.own.now writes.now.«data».now writes.now.rows) (prepared_numbers (Ok prepared)) used store.old.words.now store.old.bytes.now session_words.old store.new.words.now store.new.bytes.now session_words.new (answer_numbers (Ok result)) }
 {
-    if prepared.number != 0 {
-        return command_answer::refusal(prepared.number);
-    }
-    commit_own(own, prepared.rows, data, words, bytes);
+    commit_own(writes, store);
     session_flags::clear(session_words);
     Answer {
-        number: 0,
         used,
         reply: prepared.reply,
     }

@@ -144,7 +144,10 @@ counter_place {p} {s} {count} ps least = part_in p s count 1 ps (omega arith)
 
 module _ (w : List ℕ) (b : Bytes) (seq : ℕ) (by : ℤ) (p : List ℕ) (count : ℕ) {own : List ℕ} (d : Bytes) (a : Walked)
     (o : Own own (take a.used d) a.rows) (ps : PartsIn p (take a.used d) count) (least : 2 ≤ count) where
-  module _ {h : Option ℤ} (h-is : h ≡ held (reader_of own (take a.used d) a.rows w b seq (name_at p count (take a.used d)))) where
+  module _ {k : Key} {h : Option ℤ} (got : h ≡ held (reader_of own (take a.used d) a.rows w b seq k)) (k-is : k ≡ name_at p count (take a.used d)) where
+    h-is : h ≡ held (reader_of own (take a.used d) a.rows w b seq (name_at p count (take a.used d)))
+    h-is = got ∙ ap (λ (x : Key). held (reader_of own (take a.used d) a.rows w b seq x)) k-is
+
     effect_is : {e : Effect} → raised (name_at p count (take a.used d)) by h ≡ e → counter_effect by (reader_of own (take a.used d) a.rows w b seq) (arguments_at 0 count p (take a.used d)) ≡ e
     unfolding counter_effect
     effect_is e = sym (ap (raised (name_at p count (take a.used d)) by) h-is) ∙ e

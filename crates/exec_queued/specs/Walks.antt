@@ -1,5 +1,5 @@
 -- What running a queued command leaves.
-use Rattle.std.specs.Prelude.{ℕ, ◌+◌, ◌≤◌, ◌≡◌, List, [], ◌∷◌, ◌++◌, ℤ, length, take}
+use Rattle.std.specs.Prelude.{ℕ, ◌+◌, ◌-◌, ◌*◌, ◌≤◌, ◌≡◌, List, [], ◌∷◌, ◌++◌, ℤ, length, take}
 use Rattle.std.specs.Prelude.{Some}
 use Rattle.base_key.specs.Bytes.{Bytes}
 use Rattle.base_key.specs.Keys.{Key}
@@ -10,8 +10,17 @@ use Rattle.store_memtable.specs.Table.{last_writes}
 use Rattle.command_spec.specs.Command.{Effect}
 use Rattle.command_spec.specs.declared.Fixed.{Fixed}
 use Rattle.command_spec.specs.Errors.{fixed_reply}
+use Rattle.command_spec.specs.Places.{PartsIn}
 use Rattle.command_writes.specs.Own.{own_writes, Own}
 use Rattle.exec_queued.specs.declared.Walked.{Walked}
+
+-- what a queued command needs: its arguments and the own writes lie in the data in use, with room for its writes, and behind the data for the
+-- text of a counter
+pub record MayRun (p : List ℕ) (count : ℕ) (own : List ℕ) (d : Bytes) (a : Walked) : Type 0 where
+  pub kept : Own own (take a.used d) a.rows
+  pub parts : PartsIn p (take a.used d) count
+  pub rows_room : 4 * (a.rows + (count - 1)) ≤ length own
+  pub text_room : a.used + 20 ≤ length d
 
 -- a command that leaves the data, with its effect: the own writes, and the reply
 pub record Ran (e : Effect) (most : ℕ) (d : Bytes) (own : List ℕ) (out : Bytes) (a : Walked) (own' : List ℕ) (out' : Bytes) (r : Walked) : Type 0 where

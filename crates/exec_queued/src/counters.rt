@@ -9,42 +9,28 @@ ghost use Rattle.command_writes.specs.Own.{Own, reader_of};
 ghost use Rattle.command_lookup.specs.Reads.{read_through};
 ghost use Rattle.command_writes.specs.Changes.{OwnPut};
 ghost use Rattle.command_meaning.specs.Kinds.{counter_effect};
-ghost use Rattle.exec_queued.specs.Walks.{TextPut, CounterSet, CounterError, Advanced};
+ghost use Rattle.exec_queued.specs.Walks.{MayRun, TextPut, CounterSet, CounterError, Advanced};
 
 use crate::Walked;
 use base_number::integer;
 use command_lookup::counter;
 use command_lookup::reader::Reader;
-use command_meaning::arguments::Request;
 use command_spec::Fixed;
+use command_spec::request::Request;
+use command_writes::own::OwnWrites;
 use command_writes::write;
 use store_memtable::read;
 use store_memtable::store::Store;
-
-// The number that the counter that argument 1 names holds.
-fn counter_number(reader: &Reader, places: &[u64], count: usize) -> Option<i64>
-    requires parts_in { PartsIn places.now reader.now.«data».now count }
-    requires le_count { 2 ≤ count }
-    ensures { result ≡ held (read_through reader.now (argument 1 (arguments_at 0 count places.now reader.now.«data».now))) }
-{
-    let request = Request {
-        input: reader.data,
-        places,
-        count,
-    };
-    counter::held_number(reader, request.argument(1))
-}
 
 // Writes the text of a number behind the data in use, and answers where the data in use ends then.
 fn put_text(data: &mut [u8], used: usize, n: i64) -> usize
     requires { used + 20 ≤ length «data».old }
     ensures { TextPut n «data».old used «data».new result }
 {
-    let text = base_decimal::put_decimal(&mut data[used..], n);
-    let Some(len) = text else {
-        return used;
-    };
-    used + len
+    match base_decimal::put_decimal(&mut data[used..], n) {
+        Some(len) => used + len,
+        None => used,
+    }
 }
 
 // Sets the write of argument 1 to what lies in the data from `start` on.
@@ -102,22 +88,26 @@ pub fn run_counter(
     out: &mut [u8],
     at: Walked,
 ) -> Walked
-    requires own { Own own.old (take at.used «data».old) at.rows }
-    requires parts_in { PartsIn places.now (take at.used «data».old) count }
+    requires may_run { MayRun places.now count own.old «data».old at }
     requires le_count { 2 ≤ count }
-    requires count_in_bounds { 4 * (at.rows + (count - 1)) ≤ length own.old }
-    requires used_in_bounds { at.used + 20 ≤ length «data».old }
     ensures { Advanced (counter_effect by (reader_of own.old (take at.used «data».old) at.rows store.now.words.now store.now.bytes.now seq) (arguments_at 0 count places.now (take at.used «data».old))) (count - 1) own.old «data».old out.old at own.new «data».new out.new result }
 {
-    let reader = Reader {
+    let request = Request {
+        input: &data[..at.used],
+        places,
+        count,
+    };
+    let writes = OwnWrites {
         own,
         rows: at.rows,
-        data: &data[..at.used],
+        data: request.input,
+    };
+    let reader = Reader {
+        writes,
         store: *store,
         seq,
     };
-    let held = counter_number(&reader, places, count);
-    let Some(number) = held else {
+    let Some(number) = counter::held_number(&reader, request.argument(1)) else {
         return answer_error(out, at, Fixed::NotInteger);
     };
     let Some(sum) = integer::checked_sum(number, by) else {

@@ -1,9 +1,9 @@
 -- EXEC of a session, from its parts: the mark, the watched keys, the queue, and the verdict. Assumes nothing.
 use Prim.Native.Nat.{ℕ, ◌+◌, ◌^◌, ◌<◌}
 use native.Mathlib.Omega.{arith}
-use mathlib.Core.Path.{◌≡◌, sym, ap, ◌∙◌, subst}
+use mathlib.Core.Path.{◌≡◌, refl, sym, ap, ◌∙◌, subst}
 use mathlib.Core.Bool.{Bool, true, false, cond}
-use mathlib.Core.List.{List, ◌++◌}
+use mathlib.Core.List.{List, [], ◌++◌}
 use lib.Dec.{leb, ltb, eqb}
 use lib.ListN.{length, get_or, take, replicate, length-map}
 use Rattle.base_key.specs.Bytes.{Bytes, ◌and◌, part, total}
@@ -15,30 +15,33 @@ use Rattle.store_memtable.specs.Layout.{last_word, store_in}
 use Rattle.store_memtable.specs.Rows.{Valid, versions_in, room_in}
 use Rattle.group_spec.specs.declared.Verdict.TheVariants.{Conflict, NotTaken}
 use Rattle.group_spec.specs.Settling.{sizes_from}
-use Rattle.command_spec.specs.declared.Answer.{Answer}
+use Rattle.command_spec.specs.Numbers.{AnswerNumbers, answer_numbers}
 use Rattle.command_spec.specs.declared.Fixed.TheVariants.{ExecAbort}
 use Rattle.command_spec.specs.Command.{Command, command_of}
 use Rattle.command_spec.specs.Errors.{fixed_reply}
 use Rattle.command_spec.specs.Session.{exec_abort, any_moved}
 use Rattle.command_spec.specs.Sessions.{queue_in, session_from, yes?, watch_ok, queue_ok, session_ok, all_positive, all_queueable}
-use Rattle.command_spec.specs.Lent.{OneSession}
 use Rattle.command_spec.specs.Held.{Held}
 use Rattle.command_spec.specs.Finish.{Served}
 use Rattle.command_spec.proofs.LayoutLaws.{flag_zero}
 use Rattle.command_spec.proofs.SessionLaws.{ran_by, writes_by}
-use Rattle.session_memory.proofs.Kept.{held_by_tests, queue_count}
+use Rattle.session_memory.proofs.Kept.{queue_count}
 use Rattle.command_writes.specs.Own.{own_writes}
 use Rattle.exec_queued.specs.declared.Walked.{Walked}
 use Rattle.exec_decision.specs.Decided.{Decided, decide_queue}
 use Rattle.exec_decision.proofs.Executes.{judged_to, executes, queue_silent, queue_failed, queue_conflict, queue_judged}
+use Rattle.command_spec.specs.declared.CallError.{CallError}
 use Rattle.exec_finish.specs.declared.Prepared.{Prepared}
+use Rattle.exec_finish.specs.Numbers.{PreparedNumbers, prepared_numbers}
+use Rattle.exec_finish.proofs.ConcludeLaws.{applies_error}
+use Rattle.command_writes.proofs.Growing.{none_writes}
 use Rattle.exec_finish.specs.Leaving.{Leaves}
 use Rattle.exec_finish.specs.Deciding.{prepared_by, Judges, Decides, Applies}
 use Rattle.exec_finish.proofs.DecideLaws.{decides_prepared, decides_judged}
 use Rattle.exec_run.specs.Progress.{Progress, begun, advance_all, commands_in, QueueRan}
-use Rattle.exec_run.specs.Execution.{LaidOut, exec_served, exec_decided, ExecReady, BeforeQueue}
+use Rattle.exec_run.specs.Execution.{LaidOut, exec_served, exec_decided, ExecReady, known_numbers, BeforeQueue}
 use Rattle.exec_run.proofs.Progress.{ended, ended_writes, replies_are}
-use Rattle.std.specs.Prelude.{Option, None, Some}
+use Rattle.std.specs.Prelude.{Option, None, Some, Ok, Err}
 
 -- THE TESTS of a session
 queue_tests : (last : ℕ) (s : List ℕ) (sb : Bytes) → session_ok last s sb ≡ true → (all_positive (part 68 (get_or s 3 0) s) ≡ true) × (all_queueable (queue_in s sb) ≡ true)
@@ -57,41 +60,41 @@ queue_tests last s sb e =
     (and_left d (f and g) r3, and_left f g (and_right d (f and g) r3))
 
 -- WHAT IS DECIDED
-decided_by_lem : (s : List ℕ) (sb : Bytes) (w b own : List ℕ) (d out : Bytes) {f : Decided} {r : Prepared} {out' : Bytes}
+decided_by_lem : (s : List ℕ) (sb : Bytes) (w b own : List ℕ) (d out : Bytes) {f : Decided} {r : PreparedNumbers} {out' : Bytes}
     → decide_queue (length out) (queue_in s sb) (store_in w b) (session_from s sb) ≡ f → Decides f w out own d r out' → Decides (exec_decided (length out) s sb w b) w out own d r out'
 unfolding exec_decided
 decided_by_lem s sb w b own d out {f} {r} {out'} is l = subst (λ (x : Decided). Decides x w out own d r out') (sym is) l
 
 -- the mark
-pub exec_failed : (s : List ℕ) (sb : Bytes) (w b own : List ℕ) (d out : Bytes) {f : Bool} {put : Option ℕ} {mid : Bytes} {r : Prepared}
+pub exec_failed : (s : List ℕ) (sb : Bytes) (w b own : List ℕ) (d out : Bytes) {f : Bool} {put : Option ℕ} {mid : Bytes} {r : PreparedNumbers}
     → Valid w b → last_word w < 2 ^ 64 → out ≡ replicate (length out) 0 → f ≡ yes? (get_or s 1 0) → f ≡ true → Puts (encode (fixed_reply ExecAbort)) out put mid → r ≡ prepared_by put 255 0 0
     → Decides (exec_decided (length out) s sb w b) w out own d r mid
 unfolding session_from fixed_reply
-exec_failed s sb w b own d out v h z f-is f-yes p r-is =
+exec_failed s sb w b own d out ok h z f-is f-yes p r-is =
     decided_by_lem s sb w b own d out (queue_failed (length out) (queue_in s sb) (store_in w b) (session_from s sb) (sym f-is ∙ f-yes))
-    (decides_prepared w b own d out exec_abort NotTaken v h z p r-is)
+    (decides_prepared w b own d out exec_abort NotTaken ok h z p r-is)
 
 unmarked_is : (s : List ℕ) (sb : Bytes) → get_or s 1 0 ≡ 0 → (session_from s sb).failed ≡ false
 unfolding session_from
 unmarked_is s sb e = ap yes? e
 
 -- a watched key that has moved
-pub exec_watched : (s : List ℕ) (sb : Bytes) (w b own : List ℕ) (d out : Bytes) {f t : Bool} {put : Option ℕ} {mid : Bytes} {r : Prepared}
+pub exec_watched : (s : List ℕ) (sb : Bytes) (w b own : List ℕ) (d out : Bytes) {f t : Bool} {put : Option ℕ} {mid : Bytes} {r : PreparedNumbers}
     → Valid w b → last_word w < 2 ^ 64 → out ≡ replicate (length out) 0 → f ≡ yes? (get_or s 1 0) → f ≡ false
     → t ≡ any_moved (versions_in w b) (session_from s sb).watch → t ≡ true → Puts (encode NilArray) out put mid → r ≡ prepared_by put 1 0 0
     → Decides (exec_decided (length out) s sb w b) w out own d r mid
 unfolding store_in
-exec_watched s sb w b own d out v h z f-is f-no t-is t-yes p r-is =
+exec_watched s sb w b own d out ok h z f-is f-no t-is t-yes p r-is =
     decided_by_lem s sb w b own d out
     (queue_conflict (length out) (queue_in s sb) (store_in w b) (session_from s sb) (unmarked_is s sb (flag_zero (get_or s 1 0) (sym f-is ∙ f-no))) (sym t-is ∙ t-yes))
-    (decides_prepared w b own d out NilArray Conflict v h z p r-is)
+    (decides_prepared w b own d out NilArray Conflict ok h z p r-is)
 
 -- before the queue
 pub exec_ready : (last : ℕ) (s : List ℕ) (sb : Bytes) (w b : List ℕ) (out : Bytes) {f t : Bool}
-    → OneSession s sb → session_ok last s sb ≡ true → Valid w b → out ≡ replicate (length out) 0 → f ≡ yes? (get_or s 1 0) → f ≡ false
+    → Held s sb → session_ok last s sb ≡ true → Valid w b → out ≡ replicate (length out) 0 → f ≡ yes? (get_or s 1 0) → f ≡ false
     → t ≡ any_moved (versions_in w b) (session_from s sb).watch → t ≡ false → ExecReady s sb w b out
 exec_ready last s sb w b out o ok v z f-is f-no t-is t-no = record {
-  held = held_by_tests last s sb o ok;
+  held = o;
   positive = (queue_tests last s sb ok).0;
   queueable = (queue_tests last s sb ok).1;
   unmarked = flag_zero (get_or s 1 0) (sym f-is ∙ f-no);
@@ -102,10 +105,10 @@ exec_ready last s sb w b out o ok v z f-is f-no t-is t-no = record {
 
 -- WHAT IS KNOWN BEFORE THE QUEUE RUNS, by the code's tests
 module _ (s : List ℕ) (sb : Bytes) (w b : List ℕ) (out : Bytes) where
-  pub known_before : {x : Prepared} {out' : Bytes} → ((own : List ℕ) (d : Bytes) → Decides (exec_decided (length out) s sb w b) w out own d x out')
+  pub known_before : {x : PreparedNumbers} {out' : Bytes} → ((own : List ℕ) (d : Bytes) → Decides (exec_decided (length out) s sb w b) w out own d x out')
       → BeforeQueue s sb w b out (Some x) out'
   known_before {x} {out'} k = record {
-    known = λ p e own d. let is : x ≡ p = cc in subst (λ (y : Prepared). Decides (exec_decided (length out) s sb w b) w out own d y out') is (k own d);
+    known = λ p e own d. let is : x ≡ p = cc in subst (λ (y : PreparedNumbers). Decides (exec_decided (length out) s sb w b) w out own d y out') is (k own d);
     runs = λ e. let z : ◌≡◌ {A = ℕ} 0 1 = cc in absurd (omega arith);
   }
 
@@ -132,7 +135,7 @@ module _ (s : List ℕ) (sb : Bytes) (w b : List ℕ) (out : Bytes) (x₀ : Exec
   unfolding store_in
   still = x₀.unmoved
 
-  pub exec_judged : last_word w < 2 ^ 64 → {r : Prepared} {out' : Bytes} → Judges (room_in w a.rows (sizes_from own' 0 a.rows)) (ltb (last_word w + a.rows) (2 ^ 64)) a.put a.rows a.used mid r out'
+  pub exec_judged : last_word w < 2 ^ 64 → {r : PreparedNumbers} {out' : Bytes} → Judges (room_in w a.rows (sizes_from own' 0 a.rows)) (ltb (last_word w + a.rows) (2 ^ 64)) a.put a.rows a.used mid r out'
       → Decides (exec_decided (length out) s sb w b) w out own' d₂ r out'
   exec_judged h {r} {out'} j =
       let ws-is : own_writes own' (take a.used d₂) a.rows ≡ writes_by (queue_in s sb) (store_in w b) =
@@ -144,8 +147,13 @@ module _ (s : List ℕ) (sb : Bytes) (w b : List ℕ) (out : Bytes) (x₀ : Exec
       (decides_judged w b own' d₂ out x a.rows a.used x₀.valid h ran.kept ran.used_in x₀.cleared
       (subst (λ (t : Bytes). Puts t out a.put mid) reply_is ran.puts) j))
 
+-- with a decision known before the queue runs
+pub known_some : (s : List ℕ) (sb : Bytes) (w b : List ℕ) (out : Bytes) (p : Prepared) {e : Option Prepared} {mid : Bytes} → BeforeQueue s sb w b out (known_numbers (Ok e)) mid → e ≡ Some p
+    → BeforeQueue s sb w b out (Some (prepared_numbers (Ok p))) mid
+known_some s sb w b out p {e} {mid} k is = subst (λ (x : Option Prepared). BeforeQueue s sb w b out (known_numbers (Ok x)) mid) is k
+
 -- AND APPLIED
-pub exec_applied : (s : List ℕ) (sb : Bytes) (w b : List ℕ) (used : ℕ) (out own d : Bytes) {r : Prepared} {out' : Bytes} {w' b' s' : List ℕ} {x : Answer}
+pub exec_applied : (s : List ℕ) (sb : Bytes) (w b : List ℕ) (used : ℕ) (out own d : Bytes) {r : PreparedNumbers} {out' : Bytes} {w' b' s' : List ℕ} {x : AnswerNumbers}
     → Held s sb → Decides (exec_decided (length out) s sb w b) w out own d r out'
     → Applies (own_writes own (take r.end d) r.rows) r used w b s w' b' s' x → Leaves (exec_served (length out) used s sb w b) out w b s sb x out' w' b' s'
 unfolding exec_decided exec_served
@@ -156,8 +164,26 @@ exec_applied s sb w b used out own d {r} {out'} {w'} {b'} {s'} {x} held k l =
     subst (λ (y : Served). Leaves y out w b s sb x out' w' b' s') (sym (executes (length out) used st t q))
     (l.leaves (decide_queue (length out) q st t) out out' sb held k.number k.size k.writes k.reply (queue_silent (length out) q st t))
 
--- before the queue, and after it
-module _ (s : List ℕ) (sb : Bytes) (w b : List ℕ) (used : ℕ) (out : Bytes) {e : Option Prepared} {mid : Bytes} (k : BeforeQueue s sb w b out e mid) where
-  pub known_applied : {p : Prepared} (own d : Bytes) {w' b' s' : List ℕ} {x : Answer} → e ≡ Some p → Held s sb
-      → Applies (own_writes own (take p.end d) p.rows) p used w b s w' b' s' x → Leaves (exec_served (length out) used s sb w b) out w b s sb x mid w' b' s'
-  known_applied {p} own d is held l = exec_applied s sb w b used out own d held (k.known p is own d) l
+-- after the queue: with an error, and with what is prepared
+module _ (s : List ℕ) (sb : Bytes) (w b : List ℕ) (used : ℕ) (out own d : Bytes) {mid : Bytes} (held : Held s sb) where
+  pub decided_stopped : (e : CallError) → Valid w b → Decides (exec_decided (length out) s sb w b) w out own d (prepared_numbers (Err e)) mid
+      → Leaves (exec_served (length out) used s sb w b) out w b s sb (answer_numbers (Err e)) mid w b s
+  decided_stopped e v k = exec_applied s sb w b used out own d held k (applies_error (own_writes own (take 0 d) 0) used w b e v)
+
+  pub decided_applied : (p : Prepared) {w' b' s' : List ℕ} {x : AnswerNumbers} → Decides (exec_decided (length out) s sb w b) w out own d (prepared_numbers (Ok p)) mid
+      → Applies (own_writes own (take p.end d) p.rows) (prepared_numbers (Ok p)) used w b s w' b' s' x → Leaves (exec_served (length out) used s sb w b) out w b s sb x mid w' b' s'
+  decided_applied p k l = exec_applied s sb w b used out own d held k l
+
+-- and before it, where nothing is written
+module _ (s : List ℕ) (sb : Bytes) (w b : List ℕ) (used : ℕ) (out : Bytes) {mid : Bytes} (held : Held s sb) where
+  pub known_stopped : (e : CallError) → Valid w b → BeforeQueue s sb w b out (Some (prepared_numbers (Err e))) mid
+      → Leaves (exec_served (length out) used s sb w b) out w b s sb (answer_numbers (Err e)) mid w b s
+  known_stopped e v k = decided_stopped s sb w b used out [] [] held e v (k.known _ refl [] [])
+
+  pub known_applied : (p : Prepared) {w' b' s' : List ℕ} {x : AnswerNumbers} → BeforeQueue s sb w b out (Some (prepared_numbers (Ok p))) mid
+      → Applies (own_writes [] [] 0) (prepared_numbers (Ok p)) used w b s w' b' s' x → Leaves (exec_served (length out) used s sb w b) out w b s sb x mid w' b' s'
+  known_applied p {w'} {b'} {s'} {x} k l =
+      let kn = k.known _ refl [] [] in
+      let none : p.rows ≡ 0 = omega (arith, kn.kept.rows.rows_in) in
+      let same : own_writes [] [] 0 ≡ own_writes [] (take p.end []) p.rows = none_writes [] [] ∙ sym (none_writes [] (take p.end [])) ∙ ap (own_writes [] (take p.end [])) (sym none) in
+      decided_applied s sb w b used out [] [] held p kn (subst (λ (ws : List Write). Applies ws (prepared_numbers (Ok p)) used w b s w' b' s' x) same l)

@@ -22,7 +22,7 @@ use Rattle.command_spec.proofs.Parts.{part_next, part_none, part_start}
 use Rattle.command_writes.specs.Own.{own_writes, Own, reader_of}
 use Rattle.command_writes.proofs.Growing.{none_writes, own_none, part_append}
 use Rattle.exec_queued.specs.declared.Walked.{Walked}
-use Rattle.exec_queued.specs.Walks.{Advanced}
+use Rattle.exec_queued.specs.Walks.{MayRun, Advanced}
 use Rattle.exec_run.specs.Progress.{Progress, begun, advance, advance_all, Queued, requests_in, commands_in, lent_from, QueueRan}
 use Rattle.std.specs.Prelude.{Option, None, Some}
 
@@ -199,7 +199,7 @@ module _ {s p : List ℕ} {d₀ : Bytes} {w : List ℕ} {b : Bytes} {seq : ℕ} 
     pub may_queue_lem : request_queueable (arguments_at 0 count (part (2 * first) (2 * first + 2 * count - 2 * first) p) (take a.used d)) ≡ true
     may_queue_lem = ap request_queueable lent_arguments ∙ and_left (request_queueable (arguments_at first count p d₀)) _ queueable_next
 
-    pub lent_parts : PartsIn (part (2 * first) (2 * first + 2 * count - 2 * first) p) (take a.used d) count
+    lent_parts : PartsIn (part (2 * first) (2 * first + 2 * count - 2 * first) p) (take a.used d) count
     lent_parts = record {
       table = rw (length-take-le (2 * first + 2 * count - 2 * first) (drop (2 * first) p) (rw length-drop (omega (arith, places_in)))) (omega arith);
       inside = λ k m.
@@ -215,8 +215,13 @@ module _ {s p : List ℕ} {d₀ : Bytes} {w : List ℕ} {b : Bytes} {seq : ℕ} 
           );
     }
 
-    pub rows_room : 4 * total (part 68 (get_or s 3 0) s) ≤ length own₀ → 4 * (a.rows + (count - 1)) ≤ length own
-    rows_room o = omega (arith, g.few_rows, last_argument, count_least, g.same)
+    pub may_run : 4 * total (part 68 (get_or s 3 0) s) ≤ length own₀ → MayRun (part (2 * first) (2 * first + 2 * count - 2 * first) p) count own d a
+    may_run o = record {
+      kept = g.kept;
+      parts = lent_parts;
+      rows_room = omega (arith, g.few_rows, last_argument, count_least, g.same);
+      text_room = omega (arith, g.used_room, h);
+    }
 
     pub walking_more : {own' : List ℕ} {d' last : Bytes} {r : Walked} {text start : Bytes} {at : ℕ}
         → Puts text start put₀ out₀ → at ≡ lent_from a.put (length out)

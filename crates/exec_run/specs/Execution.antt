@@ -9,11 +9,13 @@ use Rattle.command_spec.specs.Sessions.{queue_in, session_from, all_positive, al
 use Rattle.command_spec.specs.Held.{Held}
 use Rattle.command_spec.specs.Finish.{Served, finish}
 use Rattle.exec_decision.specs.Decided.{Decided, decide_queue}
+use Rattle.command_spec.specs.declared.CallError.{CallError}
 use Rattle.exec_finish.specs.declared.Prepared.{Prepared}
+use Rattle.exec_finish.specs.Numbers.{PreparedNumbers, prepared_numbers}
 use Rattle.exec_finish.specs.Deciding.{Decides}
 use Rattle.exec_run.specs.declared.layout.Sizes.{Sizes}
 use Rattle.exec_run.specs.Progress.{Queued, commands_in}
-use Rattle.std.specs.Prelude.{Option, None, Some}
+use Rattle.std.specs.Prelude.{Option, None, Some, Result, Ok, Err}
 
 -- EXEC as bytes
 unfoldable pub exec_served : ℕ → ℕ → List ℕ → Bytes → List ℕ → Bytes → Served
@@ -57,7 +59,13 @@ pub record ExecReady (s : List ℕ) (sb : Bytes) (w b : List ℕ) (out : Bytes) 
   pub valid : Valid w b
   pub cleared : out ≡ replicate (length out) 0
 
+-- what is known before the queue runs, as numbers: an error too is known
+abbrev pub known_numbers : Result (Option Prepared) CallError → Option PreparedNumbers
+known_numbers (Ok None) = None
+known_numbers (Ok (Some p)) = Some (prepared_numbers (Ok p))
+known_numbers (Err e) = Some (prepared_numbers (Err e))
+
 -- WHAT IS KNOWN BEFORE THE QUEUE RUNS: the decision, with its reply in the buffer and without writes in any working memory; or the queue has to run
-pub record BeforeQueue (s : List ℕ) (sb : Bytes) (w b : List ℕ) (out : Bytes) (e : Option Prepared) (out' : Bytes) : Type 0 where
-  pub known : (p : Prepared) → e ≡ Some p → (own : List ℕ) (d : Bytes) → Decides (exec_decided (length out) s sb w b) w out own d p out'
+pub record BeforeQueue (s : List ℕ) (sb : Bytes) (w b : List ℕ) (out : Bytes) (e : Option PreparedNumbers) (out' : Bytes) : Type 0 where
+  pub known : (p : PreparedNumbers) → e ≡ Some p → (own : List ℕ) (d : Bytes) → Decides (exec_decided (length out) s sb w b) w out own d p out'
   pub runs : e ≡ None → (out' ≡ out) × ExecReady s sb w b out

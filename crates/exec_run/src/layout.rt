@@ -2,10 +2,10 @@
 ghost use Rattle.std.specs.Prelude.{◌≡◌, true, ◌+◌, ◌*◌, ◌^◌, ◌<◌, ◌≤◌, length, get_or};
 ghost use Rattle.base_key.specs.Bytes.{part};
 ghost use Rattle.command_spec.specs.Sessions.{queue_in, all_positive, all_queueable};
-ghost use Rattle.command_spec.specs.Held.{Held};
 ghost use Rattle.command_spec.specs.Places.{QueueSizes};
 ghost use Rattle.exec_run.specs.Execution.{SizesOf, small, LaidOut, WorkingMemory};
 
+use session_memory::session::Session;
 use session_memory::{
     ARGUMENTS, COUNTS, LENGTHS, MOST_ARGUMENT_BYTES, MOST_ARGUMENTS, MOST_QUEUED, QUEUED,
 };
@@ -42,7 +42,7 @@ pub struct Sizes {
     pub bytes: usize,
 }
 
-// The sizes of a session's queue.
+// The sizes of a session's queue, as `SizesOf` says: a struct of both is no plainer, as EXEC keeps the sizes while it writes the session.
 pub fn sizes_of(session_words: &[u64]) -> Sizes
     requires { QueueSizes session_words.now }
     ensures { SizesOf session_words.now result }
@@ -103,23 +103,15 @@ pub fn with_memory<R, F: FnMut(&mut [u64], &mut [u64], &mut [u8]) -> R>(
 }
 
 // Writes the places of the queued arguments, and their bytes.
-pub fn lay_out(
-    session_words: &[u64],
-    session_bytes: &[u8],
-    sizes: Sizes,
-    places: &mut [u64],
-    data: &mut [u8],
-)
-    requires held { Held session_words.now session_bytes.now }
-    requires session_words_value { all_positive (part 68 (get_or session_words.now 3 0) session_words.now) ≡ true }
-    requires session_bytes_value { all_queueable (queue_in session_words.now session_bytes.now) ≡ true }
-    requires sizes_of { SizesOf session_words.now sizes }
+pub fn lay_out(session: &Session, sizes: Sizes, places: &mut [u64], data: &mut [u8])
+    requires positive { all_positive (part 68 (get_or session.now.words.now 3 0) session.now.words.now) ≡ true }
+    requires queueable { all_queueable (queue_in session.now.words.now session.now.bytes.now) ≡ true }
+    requires sizes_of { SizesOf session.now.words.now sizes }
     requires arguments_in_bounds { 2 * sizes.arguments ≤ length places.old }
     requires commands_in_bounds { sizes.bytes + 20 * sizes.commands ≤ length «data».old }
-    ensures { LaidOut session_words.now session_bytes.now «data».old places.new «data».new sizes.bytes }
+    ensures { LaidOut session.now.words.now session.now.bytes.now «data».old places.new «data».new sizes.bytes }
 {
-    let start = ARGUMENTS;
-    let end = start + sizes.bytes;
-    session_queue::expand(session_words, places, sizes.arguments);
-    merge::put(data, 0, &session_bytes[start..end]);
+    let end = ARGUMENTS + sizes.bytes;
+    session_queue::expand(session.words, places, sizes.arguments);
+    merge::put(data, 0, &session.bytes[ARGUMENTS..end]);
 }

@@ -7,5 +7,3 @@ pub mod layout;
 pub mod preview;
 pub mod queued;
 pub mod transaction;
-
-use exec_finish::Prepared;

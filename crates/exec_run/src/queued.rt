@@ -6,13 +6,14 @@ ghost use Rattle.command_spec.specs.Names.{request_queueable};
 ghost use Rattle.command_spec.specs.Command.{command_of, run};
 ghost use Rattle.command_spec.specs.Places.{arguments_at, PartsIn};
 ghost use Rattle.command_writes.specs.Own.{Own, reader_of};
-ghost use Rattle.exec_queued.specs.Walks.{Advanced};
+ghost use Rattle.exec_queued.specs.Walks.{MayRun, Advanced};
 ghost use Rattle.exec_run.specs.Progress.{begun, advance_all, Queued, commands_in, lent_from, QueueRan};
 
 use crate::answers;
 use command_lookup::reader::Reader;
-use command_meaning::arguments::Request;
 use command_meaning::{Kind, kinds};
+use command_spec::request::Request;
+use command_writes::own::OwnWrites;
 use exec_queued::{Walked, counters, pairs, tombstones};
 use resp_encode::reply;
 use session_memory::{COUNTS, QUEUED};
@@ -29,45 +30,35 @@ pub fn run_queued(
     out: &mut [u8],
     at: Walked,
 ) -> Walked
-    requires own { Own own.old (take at.used «data».old) at.rows }
-    requires parts_in { PartsIn places.now (take at.used «data».old) count }
+    requires may_run { MayRun places.now count own.old «data».old at }
     requires le_count { 1 ≤ count }
     requires data_value { request_queueable (arguments_at 0 count places.now (take at.used «data».old)) ≡ true }
-    requires count_in_bounds { 4 * (at.rows + (count - 1)) ≤ length own.old }
-    requires used_in_bounds { at.used + 20 ≤ length «data».old }
     ensures { Advanced (run (reader_of own.old (take at.used «data».old) at.rows store.now.words.now store.now.bytes.now seq) (command_of (arguments_at 0 count places.now (take at.used «data».old)))) (count - 1) own.old «data».old out.old at own.new «data».new out.new result }
 {
-    let used = at.used;
     let request = Request {
-        input: &data[..used],
+        input: &data[..at.used],
         places,
         count,
     };
+    // A `match`: the input tells which runs, and no function may hand a closure out.
     match kinds::kind_at(&request) {
-        Kind::Pairs => pairs::run_pairs(places, count, own, &data[..used], out, at),
-        Kind::Tombstones => tombstones::run_tombstones(
-            places,
-            count,
-            own,
-            &data[..used],
-            store,
-            seq,
-            out,
-            at,
-        ),
+        Kind::Pairs => pairs::run_pairs(&request, own, out, at),
+        Kind::Tombstones => tombstones::run_tombstones(&request, own, store, seq, out, at),
         Kind::Counter(by) => counters::run_counter(
             places, count, by, own, data, store, seq, out, at,
         ),
         Kind::Reads(read) => {
             let reader = Reader {
-                own,
-                rows: at.rows,
-                data: &data[..used],
+                writes: OwnWrites {
+                    own,
+                    rows: at.rows,
+                    data: request.input,
+                },
                 store: *store,
                 seq,
             };
-            let next = answers::then_read(read, &reader, places, count, out, at.put);
-            Walked { put: next, ..at }
+            let put = answers::then_read(read, &reader, &request, out, at.put);
+            Walked { put, ..at }
         }
     }
 }

@@ -1,16 +1,24 @@
 -- An opened store beside zeroed sessions and a zeroed reply buffer: fit to be served, and the console that the definition opens with. Assumes nothing.
 use Prim.Native.Nat.{ℕ, ◌*◌, ◌≤◌}
 use native.Mathlib.Omega.{arith}
-use mathlib.Core.Path.{◌≡◌, sym, ap}
+use mathlib.Core.Path.{◌≡◌, refl, sym, ap}
+use mathlib.Core.Bool.{Bool, false}
 use mathlib.Core.List.{List}
 use lib.ListN.{length, replicate, length-replicate}
 use Rattle.base_key.specs.Bytes.{Bytes}
+use Rattle.std.specs.Prelude.{Result, Ok, Err, is_err}
+use Rattle.command_spec.specs.declared.CallError.{CallError}
+use Rattle.command_spec.specs.Numbers.{number_of}
 use Rattle.call_spec.specs.Calls.{lent_of, OpenPromise}
 use Rattle.call_spec.specs.Frames.{open_console}
 use Rattle.call_spec.proofs.MadeLaws.{made}
 use Rattle.frames_lines.proofs.OpenLaws.{opened_state, rests_none}
 use Rattle.frames_console.specs.Answers.{console_in}
 use Rattle.frames_console.specs.Steps.{Fit}
+
+pub opened_number : {A : Type 0} (o : Result A CallError) {b : Bool} → b ≡ is_err o → b ≡ false → number_of o ≡ 0
+opened_number (Ok a) e f = refl
+opened_number (Err x) e f = let z : ◌≡◌ {A = ℕ} 0 1 = cc in absurd (omega arith)
 
 fit_beside : (n m k : ℕ) {last versions size r : ℕ} {w w' : List ℕ} {b b' : Bytes} → 16 * 644 ≤ n → 16 * 10240 ≤ m → r ≡ 0 → OpenPromise last versions size w b r w' b'
     → Fit (lent_of w' b' (replicate n 0) (replicate m 0)) (replicate k 0)

@@ -1,14 +1,7 @@
 -- The part of the input that is read, and the line at hand in it.
-use Rattle.std.specs.Prelude.{ℕ, suc, ◌+◌, ◌-◌, ◌*◌, ◌≤◌, cond, [], ◌∷◌, eqb}
+use Rattle.std.specs.Prelude.{ℕ, suc, ◌+◌, ◌-◌, ◌*◌, cond, [], ◌∷◌, eqb}
 use Rattle.base_key.specs.Bytes.{Bytes}
-use Rattle.frames.specs.declared.Cursor.{Cursor}
-
--- a line within what is read of the part, and room on the page for an answer without replies
-pub record Within (at : Cursor) : Type 0 where
-  pub from : at.from ≤ at.end
-  pub end : at.end ≤ at.got
-  pub got : at.got ≤ 65536
-  pub filled : at.filled + 64 ≤ 131072
+use Rattle.frames.specs.declared.cursor.Cursor.{Cursor}
 
 -- falls with each line and each read
 abbrev pub input_left : Cursor → ℕ

@@ -3,17 +3,22 @@
 
 ghost use Rattle.std.specs.Prelude.{◌+◌, ◌-◌, ◌*◌, ◌<◌, ◌≤◌, min, ◌≡◌, drop, length, take};
 ghost use Rattle.base_key.specs.Bytes.{part};
-ghost use Rattle.call_spec.specs.Calls.{lent_of};
 ghost use Rattle.call_spec.specs.Frames.{open_console};
+ghost use Rattle.call_numbers.specs.Lending.{lent_in, SameMemory};
 ghost use Rattle.frames_lines.specs.Rest.{moved};
 ghost use Rattle.frames_console.specs.Answers.{AllAnswered, LineAnswered, Output, TurnsServed, console_in, room_made};
 ghost use Rattle.frames_console.specs.Steps.{Fit};
 ghost use Rattle.frames.specs.Bounds.{Served};
-ghost use Rattle.frames.specs.Input.{Within, input_left, line_length};
+ghost use Rattle.frames.specs.Input.{input_left, line_length};
 
+mod cursor;
+
+use call_numbers::lent::LentMut;
+use cursor::Cursor;
 use frames_console::frame::Begun;
 use frames_console::serve::Progress;
 use frames_console::{frame, serve};
+use frames_lines::held::Held;
 use frames_lines::pieces::Mark;
 use frames_lines::rest;
 use registry::open;
@@ -26,8 +31,6 @@ const PART: usize = 65536;
 
 const PAGE: usize = 131072;
 
-const HELD: usize = 131072;
-
 const VERSIONS: usize = 1024;
 
 const STORE_WORDS: usize = 4101;
@@ -37,16 +40,6 @@ const STORE_BYTES: usize = 32768;
 const SESSION_WORDS: usize = 10304;
 
 const SESSION_BYTES: usize = 163840;
-
-// The line at hand in the part, the bytes of the part that are read, those of the page in use, and how many reads are left.
-#[derive(Clone, Copy)]
-struct Cursor {
-    from: usize,
-    end: usize,
-    got: usize,
-    filled: usize,
-    reads: u64,
-}
 
 // Writes the page out where fewer than `need` of its bytes are free; a write that fails is passed over.
 #[tactic(auto, unfolding(frames_console::specs::Answers::room_made))]
@@ -72,20 +65,18 @@ fn serve_turns(
     held: &[u8],
     page: &mut [u8; PAGE],
     places: &mut [u64; 2048],
-    words: &mut [u64; STORE_WORDS],
-    bytes: &mut [u8; STORE_BYTES],
-    swords: &mut [u64; SESSION_WORDS],
-    sbytes: &mut [u8; SESSION_BYTES],
+    lent: &mut LentMut,
     reply: &mut [u8; 32768],
 ) -> Progress
     requires session_bound { session < 16 }
     requires to_bound { to ≤ 8192 }
     requires filled_bound { filled ≤ 131072 }
     requires held_len { length held.now ≡ 131072 }
-    requires fit { Fit (lent_of words.old bytes.old swords.old sbytes.old) reply.old }
-    ensures fit_2 { Fit (lent_of words.new bytes.new swords.new sbytes.new) reply.new }
+    requires fit { Fit (lent_in lent.old) reply.old }
+    ensures same_memory { SameMemory lent.old lent.new }
+    ensures fit_2 { Fit (lent_in lent.new) reply.new }
     ensures served { Served to result }
-    ensures turns_served { TurnsServed session (part (session * 8192) to held.now) filled page.old (lent_of words.old bytes.old swords.old sbytes.old) result page.new (lent_of words.new bytes.new swords.new sbytes.new) }
+    ensures turns_served { TurnsServed session (part (session * 8192) to held.now) filled page.old (lent_in lent.old) result page.new (lent_in lent.new) }
 {
     let start = session * 8192;
     let end = start + to;
@@ -98,18 +89,7 @@ fn serve_turns(
     };
     while at.full {
         at.filled = make_room(stdout, page, at.filled, 65536);
-        at = serve::serve_some(
-            session,
-            &held[start..end],
-            at,
-            page,
-            places,
-            words,
-            bytes,
-            swords,
-            sbytes,
-            reply,
-        );
+        at = serve::serve_some(session, &held[start..end], at, page, places, lent, reply);
     }
     at.filled = make_room(stdout, page, at.filled, 64);
     at
@@ -121,28 +101,33 @@ fn answer_line(
     line: &[u8],
     filled: usize,
     page: &mut [u8; PAGE],
-    counts: &mut [u64; 16],
-    held: &mut [u8; HELD],
+    held: &mut Held,
     places: &mut [u64; 2048],
-    words: &mut [u64; STORE_WORDS],
-    bytes: &mut [u8; STORE_BYTES],
-    swords: &mut [u64; SESSION_WORDS],
-    sbytes: &mut [u8; SESSION_BYTES],
+    lent: &mut LentMut,
     reply: &mut [u8; 32768],
 ) -> usize
     requires filled_bound { filled + 64 ≤ 131072 }
-    requires fit { Fit (lent_of words.old bytes.old swords.old sbytes.old) reply.old }
-    ensures fit_2 { Fit (lent_of words.new bytes.new swords.new sbytes.new) reply.new }
+    requires fit { Fit (lent_in lent.old) reply.old }
+    ensures same_memory { SameMemory lent.old lent.new }
+    ensures fit_2 { Fit (lent_in lent.new) reply.new }
     ensures upper_bound { result ≤ 131072 }
-    ensures line_answered { LineAnswered line.now (console_in (lent_of words.old bytes.old swords.old sbytes.old) counts.old held.old) filled page.old (console_in (lent_of words.new bytes.new swords.new sbytes.new) counts.new held.new) result page.new }
+    ensures line_answered { LineAnswered line.now (console_in (lent_in lent.old) held.old.counts held.old.bytes) filled page.old (console_in (lent_in lent.new) held.new.counts held.new.bytes) result page.new }
 {
-    match frame::begin(line, page, filled, counts, held) {
+    match frame::begin(line, page, filled, held) {
         Begun::Answered(n) => n,
         Begun::Serve(session, to, n) => {
             let at = serve_turns(
-                stdout, session, to, n, held, page, places, words, bytes, swords, sbytes, reply,
+                stdout,
+                session,
+                to,
+                n,
+                &held.bytes,
+                page,
+                places,
+                lent,
+                reply,
             );
-            frame::end(page, at, counts, held, session, to)
+            frame::end(page, at, held, session, to)
         }
     }
 }
@@ -190,7 +175,6 @@ fn read_behind(mut stdin: Stdin, part: &mut [u8], kept: usize) -> usize
 fn end_input(part: &mut [u8; PART], kept: usize, filled: usize) -> Cursor
     requires kept_bound { kept ≤ 8196 }
     requires filled_bound { filled + 64 ≤ 131072 }
-    ensures within { Within result }
     ensures reads_value { result.reads ≡ 0 }
     ensures filled_value { result.filled ≡ filled }
 {
@@ -221,9 +205,7 @@ fn read_on(
     page: &[u8; PAGE],
     at: Cursor,
 ) -> Cursor
-    requires within { Within at }
     requires reads_nonzero { 0 < at.reads }
-    ensures within_2 { Within result }
     ensures reads_lt_reads { result.reads < at.reads }
     ensures filled_value { result.filled ≡ room_made 131072 at.filled 131072 }
 {
@@ -244,15 +226,16 @@ fn read_on(
 
 // Finds where the line at hand ends in what is read.
 fn find_end(part: &[u8; PART], at: Cursor) -> Cursor
-    requires { Within at }
-    ensures within { Within result }
     ensures reads_value { result.reads ≡ at.reads }
     ensures filled_value { result.filled ≡ at.filled }
     ensures result_value { input_left result ≡ input_left at }
 {
     Cursor {
+        from: at.from,
         end: line_end(part, at.end, at.got),
-        ..at
+        got: at.got,
+        filled: at.filled,
+        reads: at.reads,
     }
 }
 
@@ -264,8 +247,6 @@ fn next_line(
     page: &[u8; PAGE],
     at: Cursor,
 ) -> Cursor
-    requires { Within at }
-    ensures within { Within result }
     ensures result_bound { input_left result ≤ input_left at }
     ensures output { Output (take at.filled page.now) result.filled page.now }
 {
@@ -279,10 +260,8 @@ fn next_line(
 
 // Goes behind the line at hand, which is answered, and makes room for the next one's.
 fn behind(stdout: Stdout, page: &[u8; PAGE], at: Cursor, filled: usize) -> Cursor
-    requires within { Within at }
     requires end_lt_got { at.end < at.got }
     requires filled_bound { filled ≤ 131072 }
-    ensures within_2 { Within result }
     ensures result_bound { input_left result < input_left at }
     ensures filled_value { result.filled ≡ room_made 131072 filled 64 }
 {
@@ -290,8 +269,9 @@ fn behind(stdout: Stdout, page: &[u8; PAGE], at: Cursor, filled: usize) -> Curso
     Cursor {
         from: start,
         end: start,
+        got: at.got,
         filled: make_room(stdout, page, filled, 64),
-        ..at
+        reads: at.reads,
     }
 }
 
@@ -301,19 +281,16 @@ fn answer_all(
     stdout: Stdout,
     part: &mut [u8; PART],
     page: &mut [u8; PAGE],
-    counts: &mut [u64; 16],
-    held: &mut [u8; HELD],
+    held: &mut Held,
     places: &mut [u64; 2048],
-    words: &mut [u64; STORE_WORDS],
-    bytes: &mut [u8; STORE_BYTES],
-    swords: &mut [u64; SESSION_WORDS],
-    sbytes: &mut [u8; SESSION_BYTES],
+    lent: &mut LentMut,
     reply: &mut [u8; 32768],
 ) -> usize
-    requires fit { Fit (lent_of words.old bytes.old swords.old sbytes.old) reply.old }
-    requires held_value { console_in (lent_of words.old bytes.old swords.old sbytes.old) counts.old held.old ≡ open_console }
+    requires fit { Fit (lent_in lent.old) reply.old }
+    requires held_value { console_in (lent_in lent.old) held.old.counts held.old.bytes ≡ open_console }
+    ensures same_memory { SameMemory lent.old lent.new }
     ensures upper_bound { result ≤ 131072 }
-    ensures all_answered { AllAnswered (console_in (lent_of words.new bytes.new swords.new sbytes.new) counts.new held.new) result page.new }
+    ensures all_answered { AllAnswered (console_in (lent_in lent.new) held.new.counts held.new.bytes) result page.new }
 {
     let first = Cursor {
         from: 0,
@@ -329,13 +306,9 @@ fn answer_all(
             &part[at.from..at.end],
             at.filled,
             page,
-            counts,
             held,
             places,
-            words,
-            bytes,
-            swords,
-            sbytes,
+            lent,
             reply,
         );
         let next = behind(stdout, page, at, filled);
@@ -348,29 +321,33 @@ fn main(rt: HostRuntime) {
     let stdout = rt.stdout();
     let mut part = [0u8; PART];
     let mut page = [0u8; PAGE];
-    let mut counts = [0u64; 16];
-    let mut held = [0u8; HELD];
+    let mut held = Held {
+        counts: [0u64; 16],
+        bytes: [0u8; 131072],
+    };
     let mut places = [0u64; 2048];
     let mut words = [0u64; STORE_WORDS];
     let mut bytes = [0u8; STORE_BYTES];
     let mut swords = [0u64; SESSION_WORDS];
     let mut sbytes = [0u8; SESSION_BYTES];
     let mut reply = [0u8; 32768];
-    if open::open(&mut words, &bytes, 0, VERSIONS, STORE_BYTES) != 0 {
+    if open::open(&mut words, &bytes, 0, VERSIONS, STORE_BYTES).is_err() {
         return;
     }
+    let lent = &mut LentMut {
+        words: &mut words,
+        bytes: &mut bytes,
+        session_words: &mut swords,
+        session_bytes: &mut sbytes,
+    };
     let filled = answer_all(
         rt.stdin(),
         stdout,
         &mut part,
         &mut page,
-        &mut counts,
         &mut held,
         &mut places,
-        &mut words,
-        &mut bytes,
-        &mut swords,
-        &mut sbytes,
+        lent,
         &mut reply,
     );
     make_room(stdout, &page, filled, PAGE);

@@ -92,6 +92,9 @@ module _ {line : Bytes} {counts : List ℕ} {held held' : Bytes} {r : Option (�
   pub frame_session : {i k : ℕ} → r ≡ Some (i, k) → i < 100
   frame_session e = let x = frame_is e in omega (arith, x.session, x.bounds.session)
 
+  pub frame_count : {i k : ℕ} → r ≡ Some (i, k) → k ≤ 4096
+  frame_count e = let x = frame_is e in omega (arith, x.count, x.bounds.most)
+
   own_bytes : (g : F.Given) → F.given line ≡ Some g → g.session < 16 → part (g.session * 8192) (count_at counts g.session + length g.input) held' ≡ held_at counts held g.session ++ g.input
   own_bytes g e h =
       let slot : slot_of g.session ≡ g.session = omega arith in

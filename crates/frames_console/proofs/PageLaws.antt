@@ -1,7 +1,7 @@
 -- Texts put behind the bytes of a page that are in use. Assumes nothing.
 use Prim.Native.Nat.{ℕ, ◌+◌, ◌-◌, ◌^◌, ◌≤◌, ◌<◌}
 use native.Mathlib.Omega.{arith}
-use mathlib.Core.Path.{◌≡◌, sym, ap, ◌∙◌}
+use mathlib.Core.Path.{◌≡◌, refl, sym, ap, ◌∙◌}
 use mathlib.Core.Bool.{Bool, true, false}
 use mathlib.Core.List.{[], ◌∷◌, ◌++◌, append_assoc}
 use lib.ListN.{length, take, drop, length-append, length-drop}
@@ -20,6 +20,7 @@ use Rattle.frames_lines.specs.Pieces.{MarkFits, head_text, number_text, mark_or_
 use Rattle.frames_console.specs.Page.{Added, ReplyFits, Free}
 use Rattle.frames_lines.proofs.AnswerLaws.{hex_length}
 use Rattle.std.specs.Prelude.{Option, None, Some}
+use Rattle.std.specs.Option.{unwrap_or}
 
 module _ {text last : Bytes} (page : Bytes) (filled : ℕ) {put : Option ℕ} (p : Puts text (rest filled page) put last) where
   rest_length : length (rest filled page) ≡ length page - filled
@@ -37,24 +38,20 @@ module _ {text last : Bytes} (page : Bytes) (filled : ℕ) {put : Option ℕ} (p
         size = same_len_mid filled (length page - filled) page last (length_kept p);
       }
 
-  not_full : filled + length text ≤ length page → put ≡ None → ⊥
-  not_full h e = omega (arith, (was_full p e).long, rest_length)
+  fitting_added : filled + length text ≤ length page → Added text filled page (filled + unwrap_or put 0) (with_rest filled page last)
+  fitting_added h = go put refl
+    where
+      go : (q : Option ℕ) → put ≡ q → Added text filled page (filled + unwrap_or q 0) (with_rest filled page last)
+      go (Some n) e = added (omega arith) e
+      go None e = absurd (omega (arith, (was_full p e).long, rest_length))
 
 -- A REPLY
-module _ {page last reply : Bytes} {count filled : ℕ} {put : Option ℕ} (f : ReplyFits count reply filled page) (p : Puts (hex (take count reply)) (rest filled page) put last) where
-  pub reply_added : {n : ℕ} → put ≡ Some n → Added (hex (take count reply)) filled page (filled + n) (with_rest filled page last)
-  reply_added e = added page filled p (omega (arith, f.room)) e
-
-  pub reply_never : put ≡ None → Added (hex (take count reply)) filled page filled (with_rest filled page last)
-  reply_never e = absurd (not_full page filled p (omega (arith, f.room, hex_length (take count reply), length-take-le count reply f.there)) e)
+pub reply_added : {page last reply : Bytes} {count filled : ℕ} {put : Option ℕ} → ReplyFits count reply filled page → Puts (hex (take count reply)) (rest filled page) put last → Added (hex (take count reply)) filled page (filled + unwrap_or put 0) (with_rest filled page last)
+reply_added {page} {reply = reply} {count} {filled} f p = fitting_added page filled p (omega (arith, f.room, hex_length (take count reply), length-take-le count reply f.there))
 
 -- SHORT TEXTS: at most 32 bytes
-module _ {text page last : Bytes} {filled : ℕ} {put : Option ℕ} (room : Free 32 filled page) (p : Puts text (rest filled page) put last) where
-  pub short_added : {n : ℕ} → put ≡ Some n → Added text filled page (filled + n) (with_rest filled page last)
-  short_added e = added page filled p (omega (arith, room.room)) e
-
-  pub short_never : length text ≤ 32 → put ≡ None → Added text filled page filled (with_rest filled page last)
-  short_never short e = absurd (not_full page filled p (omega (arith, room.room)) e)
+pub short_added : {text page last : Bytes} {filled : ℕ} {put : Option ℕ} → Free 32 filled page → Puts text (rest filled page) put last → length text ≤ 32 → Added text filled page (filled + unwrap_or put 0) (with_rest filled page last)
+short_added {page = page} {filled = filled} room p short = fitting_added page filled p (omega (arith, room.room))
 
 pub head_short : (i : ℕ) → length (head_text i) ≤ 32
 unfolding head_text

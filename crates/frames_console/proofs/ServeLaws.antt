@@ -8,7 +8,7 @@ use lib.Dec.{leb, ltb}
 use lib.ListN.{length}
 use borrow.Author.Tests.{leb-true, leb-false, ltb-true, ltb-false}
 use Rattle.base_key.specs.Bytes.{Bytes}
-use Rattle.call_spec.specs.Calls.{Lent, lent_of}
+use Rattle.call_spec.specs.Calls.{Lent}
 use Rattle.frames_lines.specs.declared.pieces.Mark.TheVariants.{NoMark}
 use Rattle.frames_lines.specs.Pieces.{MarkFits}
 use Rattle.frames_console.specs.declared.serve.Progress.{Progress}
@@ -116,31 +116,27 @@ module _ (size : ℕ) {i : ℕ} {held : Bytes} {at₀ at : Progress} {g₀ g : B
           y : Stepping i held at₀.from at₀.replied at₀.filled g₀ l₀ at.from at.replied at.filled g l
           y = x.stepping not_over
 
--- what is lent keeps its length
-pub record Sizes (g₀ p₀ w₀ b₀ sw₀ sb₀ r₀ g p w b sw sb r : List ℕ) : Type 0 where
+-- the buffers keep their length
+pub record Sizes (g₀ p₀ r₀ g p r : List ℕ) : Type 0 where
   pub page : length g ≡ length g₀
   pub places : length p ≡ length p₀
-  pub words : length w ≡ length w₀
-  pub bytes : length b ≡ length b₀
-  pub swords : length sw ≡ length sw₀
-  pub sbytes : length sb ≡ length sb₀
   pub reply : length r ≡ length r₀
 
 -- in front of a request
-pub record InLoop (i : ℕ) (held g₀ p₀ w₀ b₀ sw₀ sb₀ r₀ : List ℕ) (size : ℕ) (at₀ : Progress) (g p w b sw sb r : List ℕ) (at : Progress) : Type 0 where
+pub record InLoop (i : ℕ) (held g₀ p₀ r₀ : List ℕ) (l₀ : Lent) (size : ℕ) (at₀ : Progress) (g p r : List ℕ) (l : Lent) (at : Progress) : Type 0 where
   pub session : i < 16
   pub small : length held ≤ 8192
   pub free : at₀.filled + 65536 ≤ length g₀
   pub whole : size ≡ length g₀
   pub places : length p ≡ 2048
   pub room : length r ≡ 32768
-  pub fit : Fit (lent_of w b sw sb) r
-  pub sizes : Sizes g₀ p₀ w₀ b₀ sw₀ sb₀ r₀ g p w b sw sb r
-  pub progress : Progressing i held at₀ g₀ (lent_of w₀ b₀ sw₀ sb₀) at g (lent_of w b sw sb)
+  pub fit : Fit l r
+  pub sizes : Sizes g₀ p₀ r₀ g p r
+  pub progress : Progressing i held at₀ g₀ l₀ at g l
 
 -- before the first
-pub loop_start : {i : ℕ} {held g p w b sw sb r : List ℕ} (begun : Progress) → Serves i held begun.from begun.filled g p r → Fit (lent_of w b sw sb) r
-    → (at : Progress) → at ≡ record { from = begun.from; replied = begun.replied; filled = begun.filled; full = ltb begun.from (length held); mark = NoMark } → InLoop i held g p w b sw sb r (length g) at g p w b sw sb r at
+pub loop_start : {i : ℕ} {held g p r : List ℕ} {l : Lent} (begun : Progress) → Serves i held begun.from begun.filled g p r → Fit l r
+    → (at : Progress) → at ≡ record { from = begun.from; replied = begun.replied; filled = begun.filled; full = ltb begun.from (length held); mark = NoMark } → InLoop i held g p r l (length g) at g p r l at
 loop_start begun x f at e = record {
   session = x.session;
   small = x.size;
@@ -149,13 +145,13 @@ loop_start begun x f at e = record {
   places = x.places;
   room = x.room;
   fit = f;
-  sizes = record { page = refl; places = refl; words = refl; bytes = refl; swords = refl; sbytes = refl; reply = refl };
+  sizes = record { page = refl; places = refl; reply = refl };
   progress = progress_start x f at e;
 }
 
-module _ {i size : ℕ} {held g₀ p₀ w₀ b₀ sw₀ sb₀ r₀ g p w b sw sb r : List ℕ} {at₀ at : Progress} (x : InLoop i held g₀ p₀ w₀ b₀ sw₀ sb₀ r₀ size at₀ g p w b sw sb r at) where
+module _ {i size : ℕ} {held g₀ p₀ r₀ g p r : List ℕ} {l₀ l : Lent} {at₀ at : Progress} (x : InLoop i held g₀ p₀ r₀ l₀ size at₀ g p r l at) where
   -- behind the last
-  pub loop_over : {c : Bool} → c ≡ goes_on at size → c ≡ false → SomeServed i held at₀.from at₀.replied at₀.filled g₀ (lent_of w₀ b₀ sw₀ sb₀) at g (lent_of w b sw sb)
+  pub loop_over : {c : Bool} → c ≡ goes_on at size → c ≡ false → SomeServed i held at₀.from at₀.replied at₀.filled g₀ l₀ at g l
   loop_over e t = progress_over size x.progress x.free x.whole (sym e ∙ t)
 
   module _ {c : Bool} (e : c ≡ goes_on at size) (t : c ≡ true) where
@@ -172,14 +168,14 @@ module _ {i size : ℕ} {held g₀ p₀ w₀ b₀ sw₀ sb₀ r₀ g p w b sw sb
       room = x.room;
     }
 
-    module _ {g' w' b' sw' sb' r' : List ℕ} {at' : Progress} (n : NextServed i held at r g (lent_of w b sw sb) at' r' g' (lent_of w' b' sw' sb')) where
-      served : SomeServed i held at.from at.replied at.filled g (lent_of w b sw sb) at' g' (lent_of w' b' sw' sb')
+    module _ {g' r' : List ℕ} {l' : Lent} {at' : Progress} (n : NextServed i held at r g l at' r' g' l') where
+      served : SomeServed i held at.from at.replied at.filled g l at' g' l'
       served = next_served at loop_serves x.fit loop_more n
 
       pub loop_fewer : left_of held at' < left_of held at
       loop_fewer = progress_less size x.progress (sym e ∙ t) served
 
-      pub loop_next : {p' : List ℕ} → Sizes g p w b sw sb r g' p' w' b' sw' sb' r' → InLoop i held g₀ p₀ w₀ b₀ sw₀ sb₀ r₀ size at₀ g' p' w' b' sw' sb' r' at'
+      pub loop_next : {p' : List ℕ} → Sizes g p r g' p' r' → InLoop i held g₀ p₀ r₀ l₀ size at₀ g' p' r' l' at'
       loop_next same = record {
         session = x.session;
         small = x.small;
@@ -191,10 +187,6 @@ module _ {i size : ℕ} {held g₀ p₀ w₀ b₀ sw₀ sb₀ r₀ g p w b sw sb
         sizes = record {
           page = same.page ∙ x.sizes.page;
           places = same.places ∙ x.sizes.places;
-          words = same.words ∙ x.sizes.words;
-          bytes = same.bytes ∙ x.sizes.bytes;
-          swords = same.swords ∙ x.sizes.swords;
-          sbytes = same.sbytes ∙ x.sizes.sbytes;
           reply = same.reply ∙ x.sizes.reply;
         };
         progress = progress_next size x.progress (sym e ∙ t) served (next_left at loop_serves x.fit loop_more n);

@@ -13,7 +13,11 @@ use lib.Seq.{drop-length, drop-drop}
 use borrow.Author.Tests.{le-leb, lt-leb, lt-ltb, le-ltb, ltb-true, ltb-false, leb-true, leb-false, eq-eqb, ne_eqb, eqb-true, eqb-false}
 use Rattle.base_key.specs.Bytes.{Bytes}
 use Rattle.resp_spec.specs.Request.{read_request, spanned}
+use Rattle.std.specs.Prelude.{Result, Ok, Err}
 use Rattle.command_spec.specs.declared.Answer.{Answer}
+use Rattle.command_spec.specs.declared.CallError.{CallError}
+use Rattle.command_spec.specs.Numbers.{AnswerNumbers, answer_numbers, error_number}
+use Rattle.exec_decision.proofs.Executes.{error_numbered}
 use Rattle.call_spec.specs.Calls.{Lent, valid, RequestPromise}
 use Rattle.call_spec.specs.Frames.{closes, hex}
 use Rattle.frames_lines.specs.declared.pieces.Mark.{Mark}
@@ -50,21 +54,30 @@ module _ (s : Bytes) {used reply : ℕ} {table : List ℕ} (x : Drops s (read_re
     pub done_used : b ≡ false → used ≡ done_with s used
     done_used t = by_test s used h (sym (e ∙ x.named h nz) ∙ t)
 
+positive : (n : ℕ) → (n ≡ 0 → ⊥) → 0 < n
+positive n z = go (dec_le 1 n)
+  where
+    go : Dec (1 ≤ n) → 0 < n
+    go (yes p) = omega arith
+    go (no p) = let e : n ≡ 0 = omega arith in absurd (z e)
+
 -- THE STEP of an answer
-pub step_number : (s : Bytes) (a : Answer) → 0 < a.number → Refused a.number ≡ step_of s a
-unfolding step_of
-step_number s a h = rw (lt-ltb 0 a.number h)
+module _ (s : Bytes) {r : Result Answer CallError} where
+  pub step_error : {e : CallError} {n : ℕ} → r ≡ Err e → n ≡ error_number e → Refused n ≡ step_of s (answer_numbers r)
+  unfolding step_of
+  step_error {e} is told = rw (is, told, lt-ltb 0 (error_number e) (positive (error_number e) (error_numbered e)))
 
-pub step_none : (s : Bytes) (a : Answer) → a.number ≤ 0 → a.used ≡ 0 → Waits ≡ step_of s a
-unfolding step_of
-step_none s a h e = rw (le-ltb 0 a.number h, eq-eqb a.used 0 e)
+  module _ {a : Answer} (is : r ≡ Ok a) where
+    pub step_none : a.used ≡ 0 → Waits ≡ step_of s (answer_numbers r)
+    unfolding step_of
+    step_none e = rw (is, eq-eqb a.used 0 e)
 
-pub step_some : (s : Bytes) (a : Answer) {n : ℕ} → a.number ≤ 0 → (a.used ≡ 0 → ⊥) → n ≡ done_with s a.used → Used n a.reply ≡ step_of s a
-unfolding step_of
-step_some s a h e d = rw (le-ltb 0 a.number h, ne_eqb a.used 0 e, d)
+    pub step_some : {n : ℕ} → (a.used ≡ 0 → ⊥) → n ≡ done_with s a.used → Used n a.reply ≡ step_of s (answer_numbers r)
+    unfolding step_of
+    step_some e d = rw (is, ne_eqb a.used 0 e, d)
 
 -- WHAT A STEP TELLS of the answer
-refused_told : (s : Bytes) (a : Answer) (n : ℕ) → Refused n ≡ step_of s a → (a.number ≡ n) × (a.number ≡ 0 → ⊥)
+refused_told : (s : Bytes) (a : AnswerNumbers) (n : ℕ) → Refused n ≡ step_of s a → (a.number ≡ n) × (a.number ≡ 0 → ⊥)
 unfolding step_of
 refused_told s a n e = go (ltb 0 a.number) (eqb a.used 0) refl e
   where
@@ -73,7 +86,7 @@ refused_told s a n e = go (ltb 0 a.number) (eqb a.used 0) refl e
     go false true t e = let z : ◌≡◌ {A = ℕ} 0 1 = cc in absurd (omega arith)
     go false false t e = let z : ◌≡◌ {A = ℕ} 0 1 = cc in absurd (omega arith)
 
-waits_told : (s : Bytes) (a : Answer) → Waits ≡ step_of s a → (a.number ≡ 0) × (a.used ≡ 0)
+waits_told : (s : Bytes) (a : AnswerNumbers) → Waits ≡ step_of s a → (a.number ≡ 0) × (a.used ≡ 0)
 unfolding step_of
 waits_told s a e = go (ltb 0 a.number) (eqb a.used 0) refl refl e
   where
@@ -82,13 +95,13 @@ waits_told s a e = go (ltb 0 a.number) (eqb a.used 0) refl refl e
     go false true t u e = (omega (arith, ltb-false 0 a.number t), eqb-true a.used 0 u)
     go false false t u e = let z : ◌≡◌ {A = ℕ} 0 1 = cc in absurd (omega arith)
 
-pub record UsedTold (s : Bytes) (a : Answer) (k n : ℕ) : Type 0 where
+pub record UsedTold (s : Bytes) (a : AnswerNumbers) (k n : ℕ) : Type 0 where
   pub number : a.number ≡ 0
   pub some_used : a.used ≡ 0 → ⊥
   pub is : done_with s a.used ≡ k
   pub reply : a.reply ≡ n
 
-used_told : (s : Bytes) (a : Answer) (k n : ℕ) → Used k n ≡ step_of s a → UsedTold s a k n
+used_told : (s : Bytes) (a : AnswerNumbers) (k n : ℕ) → Used k n ≡ step_of s a → UsedTold s a k n
 unfolding step_of
 used_told s a k n e = go (ltb 0 a.number) (eqb a.used 0) refl refl e
   where
@@ -107,13 +120,6 @@ left_behind s used = go (leb (length s) used) (closes s (read_request 1024 s)) r
     go true false t = drop-length s ∙ sym (drop_of_length-le s {i = used} (leb-true (length s) used t))
     go false true t = drop-length s
     go false false t = refl
-
-positive : (n : ℕ) → (n ≡ 0 → ⊥) → 0 < n
-positive n z = go (dec_le 1 n)
-  where
-    go : Dec (1 ≤ n) → 0 < n
-    go (yes p) = omega arith
-    go (no p) = let e : n ≡ 0 = omega arith in absurd (z e)
 
 done_within : (s : Bytes) (used : ℕ) → (used ≡ 0 → ⊥) → 0 < length s → (0 < done_with s used) × (done_with s used ≤ length s)
 unfolding done_with
@@ -235,7 +241,7 @@ module _ {i from filled : ℕ} {held page page' : Bytes} {from₀ filled₀ : �
               rw (le-ltb 0 n none) (told_none below ok some_bytes room p.call used.number used.some_used left_is replied (omega (arith, used.reply)))
 
 -- a request call on the bytes that are left, and the step that its answer makes
-pub step_taken : (from : ℕ) (held : Bytes) {i : ℕ} {buffer buffer' : Bytes} {l l' : Lent} (n : ℕ) {a : Answer} {r : Step} → n ≡ 2048 → RequestPromise i (rest from held) (n / 2) buffer l a buffer' l' → r ≡ step_of (rest from held) a
+pub step_taken : (from : ℕ) (held : Bytes) {i : ℕ} {buffer buffer' : Bytes} {l l' : Lent} (n : ℕ) {a : AnswerNumbers} {r : Step} → n ≡ 2048 → RequestPromise i (rest from held) (n / 2) buffer l a buffer' l' → r ≡ step_of (rest from held) a
     → StepPromise i (drop from held) buffer l r buffer' l'
 step_taken from held n {a} places p e =
     let half : n / 2 ≡ 1024 = omega arith in

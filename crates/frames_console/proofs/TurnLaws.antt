@@ -17,23 +17,14 @@ use Rattle.frames_console.specs.Answers.{room_made, Output, TurnsServed}
 use Rattle.frames_console.proofs.OutputLaws.{output_page, output_on, output_room}
 
 -- THE OUTPUT in front of the page
+text_behind : (w t : Bytes) {t' : Bytes} (replies : Bytes) → t' ≡ t ++ hex replies → w ++ t' ≡ (w ++ t) ++ hex replies
+text_behind w t replies e = ap (λ (u : Bytes). w ++ u) e ∙ sym (append_assoc w t (hex replies))
+
 some_behind : (w : Bytes) {i : ℕ} {s t s' t' : Bytes} {l l' : Lent} {b b' : Bool} → Serving i s l b t s' l' b' t' → Serving i s l b (w ++ t) s' l' b' (w ++ t')
-some_behind w {t = t} x = record {
-  replies = x.replies;
-  fit = x.fit;
-  told = x.told;
-  text = ap (λ (u : Bytes). w ++ u) x.text ∙ sym (append_assoc w t (hex x.replies));
-  is = x.is;
-}
+some_behind w x = record { replies = x.replies; fit = x.fit; told = x.told; text = text_behind w _ _ x.text; is = x.is }
 
 all_behind : (w : Bytes) {i : ℕ} {s t rest t' : Bytes} {l l' : Lent} {b b' : Bool} {mark : Mark} → FrameServed i s l b t mark rest l' b' t' → FrameServed i s l b (w ++ t) mark rest l' b' (w ++ t')
-all_behind w {t = t} x = record {
-  replies = x.replies;
-  fit = x.fit;
-  told = x.told;
-  text = ap (λ (u : Bytes). w ++ u) x.text ∙ sym (append_assoc w t (hex x.replies));
-  is = x.is;
-}
+all_behind w x = record { replies = x.replies; fit = x.fit; told = x.told; text = text_behind w _ _ x.text; is = x.is }
 
 -- WHAT A TURN HAS REACHED
 paused_is : {i from₀ filled₀ : ℕ} {held page page' : Bytes} {replied₀ : Bool} {l l' : Lent} {r : Progress} → SomeServed i held from₀ replied₀ filled₀ page l r page' l' → r.full ≡ true → Paused i held from₀ replied₀ filled₀ page l r page' l'

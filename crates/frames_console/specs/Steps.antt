@@ -2,7 +2,7 @@
 use Rattle.std.specs.Prelude.{ℕ, ◌+◌, ◌-◌, ◌≤◌, ◌<◌, Bool, true, false, cond, List, ◌≡◌, eqb, leb, ltb, length, take, drop, replicate}
 use Rattle.base_key.specs.Bytes.{Bytes}
 use Rattle.resp_spec.specs.Request.{read_request}
-use Rattle.command_spec.specs.declared.Answer.{Answer}
+use Rattle.command_spec.specs.Numbers.{AnswerNumbers}
 use Rattle.call_spec.specs.Calls.{Lent, valid, RequestPromise}
 use Rattle.call_spec.specs.Frames.{closes}
 use Rattle.frames_lines.specs.declared.pieces.Mark.{Mark}
@@ -19,7 +19,7 @@ unfoldable pub done_with : Bytes → ℕ → ℕ
 done_with s used = cond (leb (length s) used) (length s) (cond (closes s (read_request 1024 s)) (length s) used)
 
 -- the step that an answer makes
-unfoldable pub step_of : Bytes → Answer → Step
+unfoldable pub step_of : Bytes → AnswerNumbers → Step
 step_of s a = cond (ltb 0 a.number) (Refused a.number) (cond (eqb a.used 0) Waits (Used (done_with s a.used) a.reply))
 
 -- what is lent between two requests: valid memory, and a cleared reply buffer
@@ -29,7 +29,7 @@ pub record Fit (l : Lent) (buffer : Bytes) : Type 0 where
 
 -- a request call with 1,024 places, and the step that its answer makes
 pub record StepPromise (i : ℕ) (s buffer : Bytes) (l : Lent) (r : Step) (buffer' : Bytes) (l' : Lent) : Type 0 where
-  pub answer : Answer
+  pub answer : AnswerNumbers
   pub call : RequestPromise i s 1024 buffer l answer buffer' l'
   pub is : r ≡ step_of s answer
 

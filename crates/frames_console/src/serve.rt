@@ -1,12 +1,13 @@
 // The requests of a frame, one by one, on memory that is valid between them; the hexadecimal of their replies is put into a page of output.
 ghost use Rattle.std.specs.Prelude.{◌≤◌, ◌<◌, ◌≡◌, length, take};
-ghost use Rattle.call_spec.specs.Calls.{lent_of};
 ghost use Rattle.call_spec.specs.Frames.{hex};
+ghost use Rattle.call_numbers.specs.Lending.{lent_in, SameMemory};
 ghost use Rattle.frames_console.specs.Page.{Added, ReplyFits, Moved};
 ghost use Rattle.frames_console.specs.Steps.{Fit, Serves, StepFits, After, NextServed, goes_on, SomeServed};
 
 use crate::step;
 use crate::step::Step;
+use call_numbers::lent::LentMut;
 use frames_lines::pieces;
 use frames_lines::pieces::Mark;
 
@@ -29,10 +30,8 @@ fn put_reply(page: &mut [u8], filled: usize, reply: &[u8], count: usize) -> usiz
     requires { ReplyFits count reply.now filled page.old }
     ensures { Added (hex (take count reply.now)) filled page.old result page.new }
 {
-    let Some(n) = pieces::put_hex(&mut page[filled..], &reply[..count]) else {
-        return filled;
-    };
-    filled + n
+    let put = pieces::put_hex(&mut page[filled..], &reply[..count]);
+    filled + put.unwrap_or(0)
 }
 
 // Puts the reply and sets its bytes to zero, so that the reply buffer is all zero again.
@@ -82,22 +81,18 @@ fn serve_next(
     at: Progress,
     page: &mut [u8],
     places: &mut [u64],
-    words: &mut [u64],
-    bytes: &mut [u8],
-    swords: &mut [u64],
-    sbytes: &mut [u8],
+    lent: &mut LentMut,
     reply: &mut [u8],
 ) -> Progress
     requires serves { Serves session held.now at.from at.filled page.old places.old reply.old }
-    requires fit { Fit (lent_of words.old bytes.old swords.old sbytes.old) reply.old }
+    requires fit { Fit (lent_in lent.old) reply.old }
     requires from_in_bounds { at.from < length held.now }
-    ensures { NextServed session held.now at reply.old page.old (lent_of words.old bytes.old swords.old sbytes.old) result reply.new page.new (lent_of words.new bytes.new swords.new sbytes.new) }
+    ensures same_memory { SameMemory lent.old lent.new }
+    ensures next_served { NextServed session held.now at reply.old page.old (lent_in lent.old) result reply.new page.new (lent_in lent.new) }
 {
     let from = at.from;
     let input = &held[from..];
-    let answer = call_serve::serve_session(
-        session, input, places, words, bytes, swords, sbytes, reply,
-    );
+    let answer = call_serve::serve_session(session, input, places, lent, reply);
     let step = step::step_of(input, places, answer);
     after_step(at, held.len(), step, page, reply)
 }
@@ -118,16 +113,14 @@ pub fn serve_some(
     begun: Progress,
     page: &mut [u8],
     places: &mut [u64],
-    words: &mut [u64],
-    bytes: &mut [u8],
-    swords: &mut [u64],
-    sbytes: &mut [u8],
+    lent: &mut LentMut,
     reply: &mut [u8],
 ) -> Progress
     requires serves { Serves session held.now begun.from begun.filled page.old places.old reply.old }
-    requires fit { Fit (lent_of words.old bytes.old swords.old sbytes.old) reply.old }
-    ensures fit_2 { Fit (lent_of words.new bytes.new swords.new sbytes.new) reply.new }
-    ensures some_served { SomeServed session held.now begun.from begun.replied begun.filled page.old (lent_of words.old bytes.old swords.old sbytes.old) result page.new (lent_of words.new bytes.new swords.new sbytes.new) }
+    requires fit { Fit (lent_in lent.old) reply.old }
+    ensures same_memory { SameMemory lent.old lent.new }
+    ensures fit_2 { Fit (lent_in lent.new) reply.new }
+    ensures some_served { SomeServed session held.now begun.from begun.replied begun.filled page.old (lent_in lent.old) result page.new (lent_in lent.new) }
 {
     let size = page.len();
     let mut at = Progress {
@@ -136,9 +129,7 @@ pub fn serve_some(
         ..begun
     };
     while goes_on(at, size) {
-        at = serve_next(
-            session, held, at, page, places, words, bytes, swords, sbytes, reply,
-        );
+        at = serve_next(session, held, at, page, places, lent, reply);
     }
     at
 }

@@ -1,10 +1,11 @@
 // One request of a frame: what its call answered, as the loop over the frame's requests goes on.
 ghost use Rattle.std.specs.Prelude.{◌≡◌, length};
 ghost use Rattle.resp_spec.specs.Request.{read_request};
+ghost use Rattle.command_spec.specs.Numbers.{answer_numbers};
 ghost use Rattle.frames_lines.specs.Quit.{Drops, Told};
 ghost use Rattle.frames_console.specs.Steps.{done_with, step_of, replied_after};
 
-use command_spec::Answer;
+use command_spec::{Answer, CallError};
 use frames_lines::quit;
 
 // A returned number; no whole request; or a request with the bytes that are done with and those of its reply.
@@ -34,21 +35,19 @@ fn done_with(input: &[u8], places: &[u64], used: usize, reply: usize) -> usize
 }
 
 // The step that an answer to the request at the front of `input` makes; `places` holds what was read.
-pub fn step_of(input: &[u8], places: &[u64], answer: Answer) -> Step
+pub fn step_of(input: &[u8], places: &[u64], answer: Result<Answer, CallError>) -> Step
     requires places_len { length places.now ≡ 2048 }
-    requires told { Told input.now answer places.now }
-    ensures { result ≡ step_of input.now answer }
+    requires told { Told input.now (answer_numbers answer) places.now }
+    ensures { result ≡ step_of input.now (answer_numbers answer) }
 {
-    if 0 < answer.number {
-        return Step::Refused(answer.number);
+    match answer {
+        Err(error) => Step::Refused(error.into()),
+        Ok(answer) if answer.used == 0 => Step::Waits,
+        Ok(answer) => {
+            let done = done_with(input, places, answer.used, answer.reply);
+            Step::Used(done, answer.reply)
+        }
     }
-    if answer.used == 0 {
-        return Step::Waits;
-    }
-    Step::Used(
-        done_with(input, places, answer.used, answer.reply),
-        answer.reply,
-    )
 }
 
 // Whether a reply byte was written, after `count` more.

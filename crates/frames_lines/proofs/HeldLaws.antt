@@ -6,6 +6,7 @@ use mathlib.Core.Path.{◌≡◌, refl, sym, ap, ap₂, ◌∙◌}
 use mathlib.Core.Bool.{Bool, true, false, cond, ◌&&◌}
 use mathlib.Core.List.{List, [], ◌++◌}
 use Rattle.std.specs.Prelude.{Option, None, Some}
+use Rattle.std.specs.Option.{unwrap_or}
 use lib.ListN.{length, take, drop, get_or, set, length-drop, length-set}
 use lib.Dec.{leb}
 use lib.Seq.{drop_at, drop-append-le, take-append-le, ext_get_or, take_at, take-take, drop-drop, get_or-drop, get_or-take, get_or-set_same, get_or-set_other, length-take-le}
@@ -257,5 +258,9 @@ module _ (counts : List ℕ) (held : Bytes) (i from to : ℕ) {r : Option ℕ} {
   kept_fits (Some n) e = count_fits (to - from) n (sym e)
   kept_fits None e = omega arith
 
-  pub rest_kept : {n : ℕ} → n ≡ held_of r → RestKept i from to counts held r (set counts i n) (put_mid (i * 8192) (i * 8192 + 8192 - i * 8192) held last)
-  rest_kept {n} e = kept_as n (sym e) (omega (arith, kept_fits r k.answer))
+  or_none : (q : Option ℕ) → unwrap_or q 0 ≡ held_of q
+  or_none (Some n) = refl
+  or_none None = refl
+
+  pub rest_kept : {n : ℕ} → n ≡ unwrap_or r 0 → RestKept i from to counts held r (set counts i n) (put_mid (i * 8192) (i * 8192 + 8192 - i * 8192) held last)
+  rest_kept {n} e = let same : held_of r ≡ n = sym (e ∙ or_none r) in kept_as n same (omega (arith, kept_fits r k.answer))

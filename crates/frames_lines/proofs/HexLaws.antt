@@ -1,6 +1,5 @@
 -- Hexadecimal, digit by digit and byte by byte. Assumes nothing.
-use Prim.Native.Nat.{ℕ, suc, ◌+◌, ◌-◌, ◌*◌, ◌/◌, ◌≤◌, ◌<◌}
-use native.Mathlib.Decide.{dec_le}
+use Prim.Native.Nat.{ℕ, suc, ◌+◌, ◌*◌, ◌/◌, ◌≤◌, ◌<◌}
 use native.Mathlib.Numerals.{add-one}
 use native.Mathlib.Omega.{arith}
 use mathlib.Core.Path.{◌≡◌, refl, sym, ap, ◌∙◌}
@@ -8,46 +7,10 @@ use mathlib.Core.List.{[], ◌∷◌, ◌++◌, append_assoc, append-nil}
 use Rattle.std.specs.Prelude.{Option, None, Some}
 use lib.ListN.{length, take, drop, set, get_or, drop_of_length-le}
 use lib.Seq.{drop-cons, take_at}
-use borrow.Author.Tests.{le-leb, lt-leb}
 use Rattle.base_key.specs.Bytes.{Bytes}
 use Rattle.base_writing.proofs.Puts.{Written, stored, same_length}
 use Rattle.call_spec.specs.Frames.{hex_value, join_hex, unhex}
-use Rattle.frames_lines.specs.Line.{or_sixteen, pair_of, Decodes}
-
--- a digit has a value below 16, or none
-pub data Digit (b : ℕ) : Type 0 where
-  no_digit : hex_value b ≡ None → Digit b
-  digit : (v : ℕ) → v < 16 → hex_value b ≡ Some v → Digit b
-
-pub digit_of : (b : ℕ) → Digit b
-unfolding hex_value
-digit_of b = go (dec_le 48 b) (dec_le b 57) (dec_le 97 b) (dec_le b 102)
-  where
-    go : Dec (48 ≤ b) → Dec (b ≤ 57) → Dec (97 ≤ b) → Dec (b ≤ 102) → Digit b
-    go (yes h) (yes k) p q = digit (b - 48) (omega arith) (rw (le-leb 48 b h, le-leb b 57 k))
-    go (yes h) (no k) (yes p) (yes q) = let m : 57 < b = omega arith in digit (b - 87) (omega arith) (rw (le-leb 48 b h, lt-leb b 57 m, le-leb 97 b p, le-leb b 102 q))
-    go (yes h) (no k) (yes p) (no q) = let m : 57 < b = omega arith in let t : 102 < b = omega arith in no_digit (rw (le-leb 48 b h, lt-leb b 57 m, le-leb 97 b p, lt-leb b 102 t))
-    go (yes h) (no k) (no p) q = let m : 57 < b = omega arith in let t : b < 97 = omega arith in no_digit (rw (le-leb 48 b h, lt-leb b 57 m, lt-leb 97 b t))
-    go (no h) k p q = let m : b < 48 = omega arith in let t : b < 97 = omega arith in no_digit (rw (lt-leb 48 b m, lt-leb 97 b t))
-
--- A BYTE FROM TWO DIGITS
-module _ (high low : ℕ) {h l : ℕ} (ph : h ≡ or_sixteen (hex_value high)) (pl : l ≡ or_sixteen (hex_value low)) where
-  pub pair_high : 16 ≤ h → None ≡ pair_of (hex_value high) (hex_value low)
-  unfolding pair_of
-  pair_high big = go (digit_of high)
-    where
-      go : Digit high → None ≡ pair_of (hex_value high) (hex_value low)
-      go (no_digit e) = rw e
-      go (digit v below e) = absurd (omega (arith, ph ∙ ap or_sixteen e))
-
-  pub pair_low : 16 ≤ l → None ≡ pair_of (hex_value high) (hex_value low)
-  unfolding pair_of
-  pair_low big = go (digit_of high) (digit_of low)
-    where
-      go : Digit high → Digit low → None ≡ pair_of (hex_value high) (hex_value low)
-      go (no_digit e) d = rw e
-      go (digit v below e) (no_digit f) = rw (e, f)
-      go (digit v below e) (digit w under f) = absurd (omega (arith, pl ∙ ap or_sixteen f))
+use Rattle.frames_lines.specs.Line.{pair_of, Decodes}
 
 -- A TEXT. Bytes in front of those that the rest of a text gives
 abbrev prefixed : Bytes → Option Bytes → Option Bytes

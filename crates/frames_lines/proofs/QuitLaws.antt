@@ -15,7 +15,7 @@ use Rattle.command_names.specs.declared.Control.{Control as Said}
 use Rattle.command_spec.specs.Names.{row_of, Row, Control, MULTI, EXEC, DISCARD, WATCH, UNWATCH, QUIT, other, control_of}
 use Rattle.command_names.specs.declared.Row.{Row as CodeRow}
 use Rattle.command_names.specs.Rows.{Looked, control_said}
-use Rattle.command_spec.specs.declared.Answer.{Answer}
+use Rattle.command_spec.specs.Numbers.{AnswerNumbers}
 use Rattle.command_spec.specs.Session.{Session, clear, says, respond}
 use Rattle.store_memtable.specs.Versions.{Store}
 use Rattle.call_spec.specs.Serve.{protocol_error, serve_reading, serve, answered}
@@ -74,15 +74,15 @@ drops_by room s (whole (p ∷ ps) used) st i table f n u =
     record { unanswered = λ _ z. absurd (omega (arith, q.some_reply)); named = λ _ _. ap (λ (x : Span). quits (spanned s x)) (first_words table p ps f) ∙ whole_quits s p ps used }
 
 -- THE ANSWER of a request call with 1,024 places, and the argument table that it leaves
-pub table_told : {i : ℕ} {s : Bytes} {l l' : Lent} {buffer buffer' : Bytes} {r : Answer} (t : List ℕ) {t' : List ℕ} → i < 16 → valid l ≡ true → length t ≡ 2048
+pub table_told : {i : ℕ} {s : Bytes} {l l' : Lent} {buffer buffer' : Bytes} {r : AnswerNumbers} (t : List ℕ) {t' : List ℕ} → i < 16 → valid l ≡ true → length t ≡ 2048
     → RequestPromise i s (length t / 2) buffer l r buffer' l' → TablePromise i s l t t' → Told s r t'
 unfolding serve
 table_told {i} {s} {l} {l'} {buffer} {buffer'} {r} t {t'} below fit size p q = record {
   drops = λ n u.
-      let y = drops_by (length buffer) s (read_request 1024 s) (store_of l) (session_of i l) t' front (sym (ap (λ (a : Answer). a.number) is) ∙ n) (λ z. u (ap (λ (a : Answer). a.used) is ∙ z)) in
+      let y = drops_by (length buffer) s (read_request 1024 s) (store_of l) (session_of i l) t' front (sym (ap (λ (a : AnswerNumbers). a.number) is) ∙ n) (λ z. u (ap (λ (a : AnswerNumbers). a.used) is ∙ z)) in
       record {
-        unanswered = λ h z. y.unanswered (omega (arith, ap (λ (a : Answer). a.used) is)) (sym (ap (λ (a : Answer). a.reply) is) ∙ z);
-        named = λ h z. y.named (omega (arith, ap (λ (a : Answer). a.used) is)) (λ k. z (ap (λ (a : Answer). a.reply) is ∙ k));
+        unanswered = λ h z. y.unanswered (omega (arith, ap (λ (a : AnswerNumbers). a.used) is)) (sym (ap (λ (a : AnswerNumbers). a.reply) is) ∙ z);
+        named = λ h z. y.named (omega (arith, ap (λ (a : AnswerNumbers). a.used) is)) (λ k. z (ap (λ (a : AnswerNumbers). a.reply) is ∙ k));
       };
 }
   where

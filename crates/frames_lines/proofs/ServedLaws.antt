@@ -13,7 +13,7 @@ use Rattle.base_key.specs.Bytes.{Bytes, bytes}
 use Rattle.base_number.specs.Decimal.{digits, digits_within}
 use Rattle.resp_spec.specs.Opens.{resp_spec_opens}
 use Rattle.resp_spec.specs.Request.{read_request, waits}
-use Rattle.command_spec.specs.declared.Answer.{Answer}
+use Rattle.command_spec.specs.Numbers.{AnswerNumbers}
 use Rattle.command_spec.specs.Session.{Session, clear}
 use Rattle.command_spec.specs.Finish.{reply_buffer}
 use Rattle.call_spec.specs.Serve.{State, Outcome, Stepped, request_on, serve, serve_reading, refused}
@@ -213,15 +213,15 @@ unfolding mark_text requests_left hex
 serving_end {i} l b t ok h = record { replies = []; fit = ok; told = or_none b; text = sym (append-nil t); is = nothing_left 0 i (state_in l) h }
 
 -- a reply is no longer than its buffer
-pub reply_short : {i places : ℕ} {s buffer buffer' : Bytes} {l l' : Lent} {r : Answer} → RequestPromise i s places buffer l r buffer' l' → length buffer' ≡ length buffer → r.reply ≤ length buffer
+pub reply_short : {i places : ℕ} {s buffer buffer' : Bytes} {l l' : Lent} {r : AnswerNumbers} → RequestPromise i s places buffer l r buffer' l' → length buffer' ≡ length buffer → r.reply ≤ length buffer
 unfolding reply_buffer
 reply_short {i} {places} {s} {buffer} {buffer'} {l} p same =
     let reply = (request_call i s places (length buffer) l).outcome.reply in
     let whole = ap length p.reply ∙ length-append reply (replicate (length buffer - length reply) 0) in
-    omega (arith, whole, ap (λ (a : Answer). a.reply) p.answer)
+    omega (arith, whole, ap (λ (a : AnswerNumbers). a.reply) p.answer)
 
 -- one request call on the bytes that are left
-module _ {i : ℕ} {s : Bytes} {l l' : Lent} {buffer buffer' : Bytes} {r : Answer} (below : i < 16) (fit : valid l ≡ true) (some_bytes : 0 < length s) (room : length buffer ≡ 32768) (p : RequestPromise i s 1024 buffer l r buffer' l') where
+module _ {i : ℕ} {s : Bytes} {l l' : Lent} {buffer buffer' : Bytes} {r : AnswerNumbers} (below : i < 16) (fit : valid l ≡ true) (some_bytes : 0 < length s) (room : length buffer ≡ 32768) (p : RequestPromise i s 1024 buffer l r buffer' l') where
   at_room : request_call i s 1024 (length buffer) l ≡ request_call i s 1024 32768 l
   at_room = ap (λ (k : ℕ). request_call i s 1024 k l) room
 
@@ -235,13 +235,13 @@ module _ {i : ℕ} {s : Bytes} {l l' : Lent} {buffer buffer' : Bytes} {r : Answe
   left_fit = ap valid (p.lent ∙ ap (λ (c : Called). c.lent) at_room) ∙ call_fit i s l fit
 
   number_is : r.number ≡ (first i s (state_in l)).outcome.number
-  number_is = ap (λ (a : Answer). a.number) answer_is
+  number_is = ap (λ (a : AnswerNumbers). a.number) answer_is
 
   used_is : r.used ≡ (first i s (state_in l)).outcome.used
-  used_is = ap (λ (a : Answer). a.used) answer_is
+  used_is = ap (λ (a : AnswerNumbers). a.used) answer_is
 
   reply_is : r.reply ≡ length (first i s (state_in l)).outcome.reply
-  reply_is = ap (λ (a : Answer). a.reply) answer_is
+  reply_is = ap (λ (a : AnswerNumbers). a.reply) answer_is
 
   -- the bytes of the reply are the first of the buffer
   reply_bytes : take r.reply buffer' ≡ (first i s (state_in l)).outcome.reply
@@ -249,7 +249,7 @@ module _ {i : ℕ} {s : Bytes} {l l' : Lent} {buffer buffer' : Bytes} {r : Answe
   reply_bytes =
       let o = (request_call i s 1024 (length buffer) l).outcome in
       ap (take r.reply) p.reply
-      ∙ take_at o.reply (replicate (length buffer - length o.reply) 0) r.reply (sym (ap (λ (a : Answer). a.reply) p.answer))
+      ∙ take_at o.reply (replicate (length buffer - length o.reply) 0) r.reply (sym (ap (λ (a : AnswerNumbers). a.reply) p.answer))
       ∙ ap (λ (c : Called). c.outcome.reply) at_room
       ∙ ap (λ (c : Outcome). c.reply) (call_outcome i s l fit)
 
@@ -258,7 +258,7 @@ module _ {i : ℕ} {s : Bytes} {l l' : Lent} {buffer buffer' : Bytes} {r : Answe
   unfolding reply_buffer
   zero_behind =
       let o = (request_call i s 1024 (length buffer) l).outcome in
-      let size : length o.reply ≡ r.reply = sym (ap (λ (a : Answer). a.reply) p.answer) in
+      let size : length o.reply ≡ r.reply = sym (ap (λ (a : AnswerNumbers). a.reply) p.answer) in
       ap (drop r.reply) p.reply
       ∙ drop_at o.reply (replicate (length buffer - length o.reply) 0) r.reply size
       ∙ ap (λ (k : ℕ). replicate (length buffer - k) 0) size
@@ -275,13 +275,13 @@ module _ {i : ℕ} {s : Bytes} {l l' : Lent} {buffer buffer' : Bytes} {r : Answe
 
   -- a number and a wait have no reply
   pub cleared_number : (r.number ≡ 0 → ⊥) → buffer' ≡ replicate (length buffer) 0
-  cleared_number n = no_reply_lem (refusals.requests i s 1024 (length buffer) l (λ e. n (ap (λ (a : Answer). a.number) p.answer ∙ e))).refusal.reply
+  cleared_number n = no_reply_lem (refusals.requests i s 1024 (length buffer) l (λ e. n (ap (λ (a : AnswerNumbers). a.number) p.answer ∙ e))).refusal.reply
 
   pub cleared_waits : r.used ≡ 0 → buffer' ≡ replicate (length buffer) 0
   cleared_waits u =
       let c = request_served i s 1024 (length buffer) l below fit in
       let d = serve 1024 (length buffer) s (store_of l) (session_of i l) in
-      let none : d.used ≡ 0 = ap (λ (x : Called). x.outcome.used) (sym c) ∙ sym (ap (λ (a : Answer). a.used) p.answer) ∙ u in
+      let none : d.used ≡ 0 = ap (λ (x : Called). x.outcome.used) (sym c) ∙ sym (ap (λ (a : AnswerNumbers). a.used) p.answer) ∙ u in
       no_reply_lem (ap (λ (x : Called). x.outcome.reply) c ∙ serve_silent 1024 (length buffer) s (store_of l) (session_of i l) some_bytes none)
 
   one_more : length s ≡ suc (length s - 1)

@@ -4,11 +4,6 @@ use Rattle.std.specs.Prelude.{Option, None, Some}
 use Rattle.base_key.specs.Bytes.{Bytes}
 use Rattle.call_spec.specs.Frames as F
 
--- a digit's value, or 16
-abbrev pub or_sixteen : Option ℕ → ℕ
-or_sixteen None = 16
-or_sixteen (Some v) = v
-
 -- the byte of two digits
 unfoldable pub pair_of : Option ℕ → Option ℕ → Option ℕ
 pair_of None l = None

@@ -3,7 +3,7 @@ use Rattle.std.specs.Prelude.{ℕ, ◌<◌, Bool, true, false, List, ◌≡◌, 
 use Rattle.base_key.specs.Bytes.{Bytes}
 use Rattle.resp_spec.specs.declared.Span.{Span}
 use Rattle.resp_spec.specs.Request.{Reading, read_request, span, spanned}
-use Rattle.command_spec.specs.declared.Answer.{Answer}
+use Rattle.command_spec.specs.Numbers.{AnswerNumbers}
 use Rattle.call_spec.specs.Frames.{closes}
 use Rattle.command_names.specs.declared.Control.{Control as Said}
 use Rattle.command_spec.specs.Names.{row_of, Control, MULTI, EXEC, DISCARD, WATCH, UNWATCH, QUIT, other, control_of}
@@ -36,5 +36,5 @@ pub record Drops (s : Bytes) (x : Reading) (used reply : ℕ) (table : List ℕ)
   pub named : used < length s → (reply ≡ 0 → ⊥) → quits (spanned s (first_span table)) ≡ closes s x
 
 -- the same of an answer that used bytes
-pub record Told (s : Bytes) (a : Answer) (table : List ℕ) : Type 0 where
+pub record Told (s : Bytes) (a : AnswerNumbers) (table : List ℕ) : Type 0 where
   pub drops : a.number ≡ 0 → (a.used ≡ 0 → ⊥) → Drops s (read_request 1024 s) a.used a.reply table

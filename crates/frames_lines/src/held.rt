@@ -1,9 +1,16 @@
-// What the sessions hold between frames: 16 counts, and 8,192 bytes for each session.
-ghost use Rattle.std.specs.Prelude.{◌≡◌, ◌<◌, length};
-ghost use Rattle.frames_lines.specs.Rest.{held_of};
+// What the sessions hold between frames.
+ghost use Rattle.std.specs.Prelude.{◌≡◌, ◌<◌};
 ghost use Rattle.frames_lines.specs.Held.{Memory, count_at, slot_of, FrameRead, RestAt, RestKept};
 
 use crate::{line, rest};
+
+// For each of the 16 sessions a count, and 8,192 bytes, of which the first `count` are held; the others are working space.
+#[derive(Drop)]
+pub struct Held {
+    pub counts: [u64; 16],
+    pub bytes: [u8; 131072],
+    pub ghost sizes: { Memory counts bytes },
+}
 
 // Whose bytes the frame of a session is read behind: sessions above 15 hold nothing.
 pub fn slot_of(session: usize) -> usize
@@ -12,54 +19,37 @@ pub fn slot_of(session: usize) -> usize
     session.min(15)
 }
 
-// How many bytes a session holds.
-pub fn count_at(counts: &[u64], slot: usize) -> usize
-    requires { slot < length counts.now }
-    ensures { result ≡ count_at counts.now slot }
-{
-    counts[slot].min(4096) as usize
-}
-
-// Reads a line: its bytes are written behind those that its session holds.
-pub fn read_frame(line: &[u8], counts: &[u64], held: &mut [u8]) -> Option<(usize, usize)>
-    requires { Memory counts.now held.old }
-    ensures { FrameRead line.now counts.now held.old result held.new }
-{
-    let Some(session) = line::read_head(line) else {
-        return None;
-    };
-    let slot = slot_of(session);
-    let at = count_at(counts, slot);
-    let start = slot * 8192;
-    let end = start + 8192;
-    line::read_line(line, &mut held[start..end], at)
-}
-
-// How many bytes a session holds after its rest was kept or dropped.
-fn count_after(kept: Option<usize>) -> u64
-    ensures { result ≡ held_of kept }
-{
-    match kept {
-        Some(count) => count as u64,
-        None => 0,
+impl Held {
+    // How many bytes a session holds.
+    pub fn count_at(&self, slot: usize) -> usize
+        requires { slot < 16 }
+        ensures { result ≡ count_at self.now.counts slot }
+    {
+        self.counts[slot].min(4096) as usize
     }
-}
 
-// Keeps the bytes from `from` to `to` of a session's part as its rest; one above 4,096 bytes is dropped.
-pub fn keep(
-    counts: &mut [u64],
-    held: &mut [u8],
-    session: usize,
-    from: usize,
-    to: usize,
-) -> Option<usize>
-    requires memory { Memory counts.old held.old }
-    requires rest_at { RestAt session from to }
-    ensures { RestKept session from to counts.old held.old result counts.new held.new }
-{
-    let start = session * 8192;
-    let end = start + 8192;
-    let kept = rest::keep_rest(&mut held[start..end], from, to);
-    counts[session] = count_after(kept);
-    kept
+    // Reads a line: its bytes are written behind those that its session holds.
+    pub fn read_frame(&mut self, line: &[u8]) -> Option<(usize, usize)>
+        ensures same_counts { self.new.counts ≡ self.old.counts }
+        ensures frame_read { FrameRead line.now self.old.counts self.old.bytes result self.new.bytes }
+    {
+        let session = line::read_head(line)?;
+        let slot = slot_of(session);
+        let at = self.count_at(slot);
+        let start = slot * 8192;
+        let end = start + 8192;
+        line::read_line(line, &mut self.bytes[start..end], at)
+    }
+
+    // Keeps the bytes from `from` to `to` of a session's part as its rest; one above 4,096 bytes is dropped.
+    pub fn keep(&mut self, session: usize, from: usize, to: usize) -> Option<usize>
+        requires { RestAt session from to }
+        ensures { RestKept session from to self.old.counts self.old.bytes result self.new.counts self.new.bytes }
+    {
+        let start = session * 8192;
+        let end = start + 8192;
+        let kept = rest::keep_rest(&mut self.bytes[start..end], from, to);
+        self.counts[session] = kept.unwrap_or(0) as u64;
+        kept
+    }
 }

@@ -1,17 +1,19 @@
 // An input line: two decimal digits of session, a space, 1 to 4,096 bytes of lower-case hexadecimal.
-ghost use Rattle.std.specs.Prelude.{◌≡◌, ◌*◌, ◌≤◌, length};
+ghost use Rattle.std.specs.Prelude.{◌≡◌, ◌*◌, ◌≤◌, ◌<◌, length};
+ghost use Rattle.std.specs.Option.{IfSome};
 ghost use Rattle.call_spec.specs.Frames.{hex_value};
-ghost use Rattle.frames_lines.specs.Line.{or_sixteen, pair_of, Decodes, head_of, Room, LineRead};
+ghost use Rattle.frames_lines.specs.Line.{pair_of, Decodes, head_of, Room, LineRead};
 
-// The value of a lower-case hexadecimal digit; 16 for any other byte.
+// The value of a lower-case hexadecimal digit. `to_digit` of char takes upper case too, and so needs a test before it.
 #[tactic(auto, unfolding(call_spec::specs::Frames::hex_value))]
-fn hex_value(byte: u8) -> u8
-    ensures { result ≡ or_sixteen (hex_value byte) }
+fn hex_value(byte: u8) -> Option<u8>
+    ensures value { result ≡ hex_value byte }
+    ensures upper_bound { IfSome result (λ v. v < 16) }
 {
     match byte {
-        b'0'..=b'9' => byte - b'0',
-        b'a'..=b'f' => byte - b'a' + 10,
-        _ => 16,
+        b'0'..=b'9' => Some(byte - b'0'),
+        b'a'..=b'f' => Some(byte - b'a' + 10),
+        _ => None,
     }
 }
 
@@ -20,13 +22,9 @@ fn hex_value(byte: u8) -> u8
 fn pair_byte(high: u8, low: u8) -> Option<u8>
     ensures { result ≡ pair_of (hex_value high) (hex_value low) }
 {
-    let h = hex_value(high);
-    let l = hex_value(low);
-    if h < 16 && l < 16 {
-        Some(h * 16 + l)
-    } else {
-        None
-    }
+    let h = hex_value(high)?;
+    let l = hex_value(low)?;
+    Some(h * 16 + l)
 }
 
 // Writes the bytes of a hexadecimal text at the front of `out`.
@@ -38,11 +36,9 @@ fn decode(text: &[u8], out: &mut [u8]) -> Option<usize>
     if count * 2 < text.len() {
         return None;
     }
+    // By index, as in `put_hex`, where another form was tried.
     for n in 0..count {
-        match pair_byte(text[n * 2], text[n * 2 + 1]) {
-            Some(b) => out[n] = b,
-            None => return None,
-        }
+        out[n] = pair_byte(text[n * 2], text[n * 2 + 1])?;
     }
     Some(count)
 }
@@ -76,11 +72,7 @@ pub fn read_line(line: &[u8], held: &mut [u8], at: usize) -> Option<(usize, usiz
     requires { Room at held.old }
     ensures { LineRead line.now at held.old result held.new }
 {
-    let Some(session) = read_head(line) else {
-        return None;
-    };
-    let Some(count) = decode(&line[3..], &mut held[at..]) else {
-        return None;
-    };
+    let session = read_head(line)?;
+    let count = decode(&line[3..], &mut held[at..])?;
     Some((session, count))
 }

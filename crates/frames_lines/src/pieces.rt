@@ -31,6 +31,7 @@ pub fn put_hex(out: &mut [u8], reply: &[u8]) -> Option<usize>
         base_writing::clear(out);
         return None;
     }
+    // by index: tried with `chunks_exact_mut`, but of lent pieces a proof knows only the length when the loop is over
     for (i, byte) in reply.iter().enumerate() {
         out[i * 2] = hex_digit(*byte / 16);
         out[i * 2 + 1] = hex_digit(*byte % 16);
@@ -61,6 +62,7 @@ fn put_number(out: &mut [u8], number: u64) -> Option<usize>
 fn put_mark(out: &mut [u8], replied: bool, mark: Mark) -> Option<usize>
     ensures { Puts (mark_or_dash replied mark) out.old result out.new }
 {
+    // A `match`: the input tells which runs, and no function may hand a closure out.
     match mark {
         Mark::NoMark if replied => Some(0),
         Mark::NoMark => base_writing::put_byte(out, b'-'),

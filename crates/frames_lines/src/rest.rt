@@ -2,7 +2,7 @@
 ghost use Rattle.std.specs.Prelude.{◌≡◌};
 ghost use Rattle.frames_lines.specs.Rest.{Within, moved, Keeps};
 
-// Moves the bytes from `from` to `to` to the front.
+// Moves the bytes from `from` to `to` to the front: `copy_within`, with what it leaves told for two callers.
 pub fn move_down(held: &mut [u8], from: usize, to: usize)
     requires { Within from to held.old }
     ensures { held.new ≡ moved from to held.old }

@@ -3,48 +3,39 @@
 
 ghost use Rattle.std.specs.Prelude.{◌≡◌, true, ◌+◌, ◌*◌, ◌^◌, ◌≤◌, ◌<◌, ltb, length, set};
 ghost use Rattle.store_memtable.specs.Versions.{commit_one, commit};
-ghost use Rattle.store_memtable.specs.Layout.{count_word, used_word, most_versions_word, most_bytes_word, store_in, leave_words, leave_bytes};
-ghost use Rattle.store_memtable.specs.Rows.{Valid, room_in};
+ghost use Rattle.store_memtable.specs.Layout.{count_word, used_word, most_versions_word, most_bytes_word};
+ghost use Rattle.store_memtable.specs.Rows.{room_in};
+ghost use Rattle.store_commit.specs.Leaving.{Leaves, store_of};
+ghost use Rattle.group_spec.specs.declared.Verdict.TheVariants.{Accepted};
 ghost use Rattle.group_spec.specs.Group.{store_after, verdict_byte};
 ghost use Rattle.group_spec.specs.Members.{list_from, write_at, member_inside, pending_of};
-ghost use Rattle.group_spec.specs.Settling.{WriteIn, WritesIn, size_at, sizes_from, RoomFor, judge_since, room_after, taken_at, step_verdict};
+ghost use Rattle.group_spec.specs.Settling.{WriteIn, WritesIn, size_at, sizes_from, RoomFor, judge_since, as_room, room_after, taken_at, step_verdict};
 
-use group_spec::{Member, Verdict, conflict, parts, sizes};
-use store_commit::commit;
+use group_spec::parts::Parts;
+use group_spec::{Member, Verdict, conflict, sizes};
+use store_commit::lent::StoreMut;
+use store_memtable::store::Store;
 use store_memtable::{LAST, read};
 
 // Commits write j.
-fn commit_write(parts: &[u64], data: &[u8], j: usize, words: &mut [u64], bytes: &mut [u8])
-    requires write_in { WriteIn parts.now «data».now j }
-    requires valid { Valid words.old bytes.old }
-    requires room_for { RoomFor words.old 1 (size_at parts.now j) }
-    ensures words_after { words.new ≡ leave_words (commit_one (write_at parts.now «data».now j) (store_in words.old bytes.old)) words.old }
-    ensures bytes_after { bytes.new ≡ leave_bytes (commit_one (write_at parts.now «data».now j) (store_in words.old bytes.old)) bytes.old }
+fn commit_write(parts: Parts, j: usize, store: &mut StoreMut)
+    requires write_in { WriteIn parts.table.now parts.«data».now j }
+    requires room_for { RoomFor store.old.words.now 1 (size_at parts.table.now j) }
+    ensures { Leaves (commit_one (write_at parts.entry.table.now parts.entry.«data».now j) (store_of store.old)) store.old store.new }
 {
-    let at = 4 * j;
-    let word = read::word(parts, at + 3);
-    let name = parts::key_part(parts, data, at);
-    let value = parts::value_part(data, read::word(parts, at + 2), word);
-    commit::commit_one(words, bytes, name, value, word != 0);
+    let write = parts.write_at(j);
+    store.commit_one(write.name, write.value, write.live);
 }
 
-// Commits `count` writes from write `first` on, in order.
-pub fn commit_writes(
-    parts: &[u64],
-    data: &[u8],
-    first: usize,
-    count: usize,
-    words: &mut [u64],
-    bytes: &mut [u8],
-)
-    requires writes_in { WritesIn parts.now «data».now first count }
-    requires valid { Valid words.old bytes.old }
-    requires room_for { RoomFor words.old count (sizes_from parts.now first count) }
-    ensures words_after { words.new ≡ leave_words (commit (list_from (write_at parts.now «data».now) first count) (store_in words.old bytes.old)) words.old }
-    ensures bytes_after { bytes.new ≡ leave_bytes (commit (list_from (write_at parts.now «data».now) first count) (store_in words.old bytes.old)) bytes.old }
+// Commits `count` writes from write `first` on, in order. `WritesIn` and `RoomFor` are about the writes that are given, others at each call:
+// no struct keeps them.
+pub fn commit_writes(parts: Parts, first: usize, count: usize, store: &mut StoreMut)
+    requires writes_in { WritesIn parts.table.now parts.«data».now first count }
+    requires room_for { RoomFor store.old.words.now count (sizes_from parts.table.now first count) }
+    ensures { Leaves (commit (list_from (write_at parts.entry.table.now parts.entry.«data».now) first count) (store_of store.old)) store.old store.new }
 {
     for j in first..first + count {
-        commit_write(parts, data, j, words, bytes);
+        commit_write(parts, j, store);
     }
 }
 
@@ -56,9 +47,9 @@ pub fn has_room(parts: &[u64], first: usize, count: usize, words: &[u64]) -> boo
     requires words_bound_2 { used_word words.now ≤ most_bytes_word words.now }
     ensures { result ≡ room_in words.now count (sizes_from parts.now first count) }
 {
-    let free = read::word(words, 4) - read::word(words, 1);
+    let free = read::free_bytes(words);
     count <= read::word(words, 3) - read::word(words, 0)
-        && matches!(sizes::writes_left(parts, first, count, free), Some(_))
+        && sizes::writes_left(parts, first, count, free).is_some()
 }
 
 // Are there sequences for `count` writes after `last`?
@@ -68,45 +59,39 @@ pub fn has_sequences(last: u64, count: usize) -> bool
     last.checked_add(read::wide(count)).is_some()
 }
 
-// Settles a taken member; `began` is the last sequence when the group began. Conflict comes before 6 and 7.
-pub fn settle_member(
-    member: Member,
-    began: u64,
-    parts: &[u64],
-    data: &[u8],
-    words: &mut [u64],
-    bytes: &mut [u8],
-) -> Verdict
-    requires member_value { member_inside parts.now «data».now member ≡ true }
-    requires valid { Valid words.old bytes.old }
-    ensures value { result ≡ judge_since began (store_in words.old bytes.old) (pending_of parts.now «data».now member) }
-    ensures words_after { words.new ≡ leave_words (store_after result (pending_of parts.now «data».now member).writes (store_in words.old bytes.old)) words.old }
-    ensures bytes_after { bytes.new ≡ leave_bytes (store_after result (pending_of parts.now «data».now member).writes (store_in words.old bytes.old)) bytes.old }
+// The verdict of a taken member; `began` is the last sequence when the group began. Conflict comes before 6 and 7.
+fn judge(member: Member, began: u64, parts: Parts, store: &StoreMut) -> Verdict
+    requires { member_inside parts.table.now parts.«data».now member ≡ true }
+    ensures value { result ≡ judge_since began (store_of store.now) (pending_of parts.entry.table.now parts.entry.«data».now member) }
+    ensures room_for { result ≡ Accepted → RoomFor store.now.words.now member.writes (sizes_from parts.entry.table.now member.first_write member.writes) }
 {
-    if conflict::moved_since(member, began, parts, data, words, bytes) {
+    let lent = Store {
+        words: store.words,
+        bytes: store.bytes,
+    };
+    if conflict::moved_since(member, began, parts, &lent) {
         return Verdict::Conflict;
     }
-    if !has_room(parts, member.first_write, member.writes, words) {
+    if !has_room(parts.table, member.first_write, member.writes, lent.words) {
         return Verdict::NoRoom;
     }
-    if !has_sequences(words[LAST], member.writes) {
+    if !has_sequences(lent.words[LAST], member.writes) {
         return Verdict::NoSequence;
     }
-    commit_writes(parts, data, member.first_write, member.writes, words, bytes);
     Verdict::Accepted
 }
 
-// The byte of a verdict.
-pub fn verdict_byte(verdict: Verdict) -> u8
-    ensures { result ≡ verdict_byte verdict }
+// Settles a taken member: an accepted one's writes are committed.
+pub fn settle_member(member: Member, began: u64, parts: Parts, store: &mut StoreMut) -> Verdict
+    requires { member_inside parts.table.now parts.«data».now member ≡ true }
+    ensures value { result ≡ judge_since began (store_of store.old) (pending_of parts.entry.table.now parts.entry.«data».now member) }
+    ensures left { Leaves (store_after result (pending_of parts.entry.table.now parts.entry.«data».now member).writes (store_of store.old)) store.old store.new }
 {
-    match verdict {
-        Verdict::Accepted => 0,
-        Verdict::Conflict => 1,
-        Verdict::NoRoom => 6,
-        Verdict::NoSequence => 7,
-        Verdict::NotTaken => 255,
+    let verdict = judge(member, began, parts, store);
+    if matches!(verdict, Verdict::Accepted) {
+        commit_writes(parts, member.first_write, member.writes, store);
     }
+    verdict
 }
 
 // Settles member i of a group, or leaves it untaken, and writes its verdict byte. Returns the room after it.
@@ -114,27 +99,23 @@ pub fn settle_next(
     member: Member,
     i: usize,
     began: u64,
-    room: usize,
-    parts: &[u64],
-    data: &[u8],
-    words: &mut [u64],
-    bytes: &mut [u8],
+    room: Option<usize>,
+    parts: Parts,
+    store: &mut StoreMut,
     verdicts: &mut [u8],
-) -> usize
-    requires member_value { member_inside parts.now «data».now member ≡ true }
-    requires valid { Valid words.old bytes.old }
+) -> Option<usize>
+    requires member_value { member_inside parts.table.now parts.«data».now member ≡ true }
     requires i_in_bounds { i < length verdicts.old }
-    ensures value { result ≡ room_after i room (sizes_from parts.now member.first_write member.writes) }
-    ensures verdicts_after { verdicts.new ≡ set verdicts.old i (verdict_byte (step_verdict (taken_at i result) began (store_in words.old bytes.old) (pending_of parts.now «data».now member))) }
-    ensures words_after { words.new ≡ leave_words (store_after (step_verdict (taken_at i result) began (store_in words.old bytes.old) (pending_of parts.now «data».now member)) (pending_of parts.now «data».now member).writes (store_in words.old bytes.old)) words.old }
-    ensures bytes_after { bytes.new ≡ leave_bytes (store_after (step_verdict (taken_at i result) began (store_in words.old bytes.old) (pending_of parts.now «data».now member)) (pending_of parts.now «data».now member).writes (store_in words.old bytes.old)) bytes.old }
+    ensures value { as_room result ≡ room_after i (as_room room) (sizes_from parts.entry.table.now member.first_write member.writes) }
+    ensures verdicts_after { verdicts.new ≡ set verdicts.old i (verdict_byte (step_verdict (taken_at i (as_room result)) began (store_of store.old) (pending_of parts.entry.table.now parts.entry.«data».now member))) }
+    ensures left { Leaves (store_after (step_verdict (taken_at i (as_room result)) began (store_of store.old) (pending_of parts.entry.table.now parts.entry.«data».now member)) (pending_of parts.entry.table.now parts.entry.«data».now member).writes (store_of store.old)) store.old store.new }
 {
-    let after = sizes::room_after(parts, member.first_write, member.writes, i, room);
+    let after = sizes::room_after(parts.table, member.first_write, member.writes, i, room);
     let verdict = if sizes::taken_at(i, after) {
-        settle_member(member, began, parts, data, words, bytes)
+        settle_member(member, began, parts, store)
     } else {
         Verdict::NotTaken
     };
-    verdicts[i] = verdict_byte(verdict);
+    verdicts[i] = u8::from(verdict);
     after
 }

@@ -1,33 +1,10 @@
 // Group calls on local arrays: each number with the verdict bytes, written to standard output.
 #![tactic(auto)]
 
+use command_spec::CallError;
 use group_spec::Member;
 use registry::{group, open};
 use std::io::Stdout;
-
-// A call with two members.
-fn call_two(
-    members: [Member; 2],
-    parts: &[u64],
-    data: &[u8],
-    verdicts: &mut [u8],
-    words: &mut [u64],
-    bytes: &mut [u8],
-) -> u64 {
-    group::group(&members, parts, data, verdicts, words, bytes)
-}
-
-// A call with 65 members.
-fn call_many(
-    members: [Member; 65],
-    parts: &[u64],
-    data: &[u8],
-    verdicts: &mut [u8],
-    words: &mut [u64],
-    bytes: &mut [u8],
-) -> u64 {
-    group::group(&members, parts, data, verdicts, words, bytes)
-}
 
 // A member without a read sequence.
 fn writing(first: usize, count: usize) -> Member {
@@ -45,26 +22,26 @@ fn writing(first: usize, count: usize) -> Member {
 fn reading(read: u64, count: usize, checks: usize) -> Member {
     Member {
         has_read: 1,
-        read: read,
+        read,
         first_write: 0,
         writes: count,
         first_check: 0,
-        checks: checks,
+        checks,
     }
 }
 
-fn wide(byte: u8) -> u64 {
-    byte as u64
-}
-
-// Writes a number, two verdict bytes and a line feed; a write that fails is passed over.
-fn show(stdout: Stdout, number: u64, verdicts: &[u8; 2]) {
-    let one = wide(verdicts[0]);
-    let two = wide(verdicts[1]);
+// Writes the number that a call gives at the interface, two verdict bytes and a line feed; a write that fails is passed over.
+fn show(stdout: Stdout, judged: Result<(), CallError>, verdicts: &[u8; 2]) {
+    let number = match judged {
+        Ok(()) => 0,
+        Err(error) => error.into(),
+    };
+    let one = verdicts[0];
+    let two = verdicts[1];
     let _ = println!(stdout; "number {number}, verdicts {one} {two}");
 }
 
-// A mebibyte of zeros and one more.
+// A mebibyte of zeros and one more. As a local of `main` it was tried: the check ran out of stack.
 fn zeros() -> [u8; 1048577] {
     [0u8; 1048577]
 }
@@ -73,49 +50,44 @@ fn zeros() -> [u8; 1048577] {
 const LONG: [u64; 12] = [0, 1048576, 0, 0, 0, 1048577, 0, 0, 0, 1, 0, 0];
 
 // Two members in a store with room for 64 bytes: 6 says that a member was taken.
-fn sizes(stdout: Stdout, first: Member, second: Member, data: &[u8]) {
+fn sizes(stdout: Stdout, members: &[Member], data: &[u8]) {
     let mut words = [0u64; 25];
     let mut bytes = [0u8; 64];
     let mut verdicts = [9u8; 2];
-    let parts = LONG;
-    open::open(&mut words, &bytes, 0, 5, 64);
-    let number = call_two(
-        [first, second],
-        &parts,
-        data,
-        &mut verdicts,
-        &mut words,
-        &mut bytes,
-    );
-    show(stdout, number, &verdicts);
+    let _ = open::open(&mut words, &bytes, 0, 5, 64);
+    let judged = group::group(members, &LONG, data, &mut verdicts, &mut words, &mut bytes);
+    show(stdout, judged, &verdicts);
 }
 
 // Sizes 1,048,576 then 0; 1,048,577 then 0; 1 then 1,048,576.
 fn three_sizes(stdout: Stdout, data: &[u8]) {
-    sizes(stdout, writing(0, 1), writing(0, 0), data);
-    sizes(stdout, writing(1, 1), writing(0, 0), data);
-    sizes(stdout, writing(2, 1), writing(0, 1), data);
+    sizes(stdout, &[writing(0, 1), writing(0, 0)], data);
+    sizes(stdout, &[writing(1, 1), writing(0, 0)], data);
+    sizes(stdout, &[writing(2, 1), writing(0, 1)], data);
 }
 
 // The parts of the keys a, b and c: a has the value b, the others none.
 const PARTS: [u64; 12] = [0, 1, 1, 2, 1, 1, 0, 0, 2, 1, 0, 0];
+
+// A call over these keys.
+fn call(
+    members: &[Member],
+    verdicts: &mut [u8],
+    words: &mut [u64],
+    bytes: &mut [u8],
+) -> Result<(), CallError> {
+    group::group(members, &PARTS, b"abc", verdicts, words, bytes)
+}
 
 // Room for one version: members that write a and b, and c.
 fn room_for_one(stdout: Stdout) {
     let mut words = [0u64; 9];
     let mut bytes = [0u8; 64];
     let mut verdicts = [9u8; 2];
-    let parts = PARTS;
-    open::open(&mut words, &bytes, 0, 1, 64);
-    let number = call_two(
-        [writing(0, 2), writing(2, 1)],
-        &parts,
-        b"abc",
-        &mut verdicts,
-        &mut words,
-        &mut bytes,
-    );
-    show(stdout, number, &verdicts);
+    let _ = open::open(&mut words, &bytes, 0, 1, 64);
+    let members = [writing(0, 2), writing(2, 1)];
+    let judged = call(&members, &mut verdicts, &mut words, &mut bytes);
+    show(stdout, judged, &verdicts);
 }
 
 // The newest version of a is at 5: a member that read at 5 writes a, another that read at 5 checks it.
@@ -123,25 +95,12 @@ fn read_at_five(stdout: Stdout) {
     let mut words = [0u64; 25];
     let mut bytes = [0u8; 64];
     let mut verdicts = [9u8; 2];
-    let parts = PARTS;
-    open::open(&mut words, &bytes, 4, 5, 64);
-    call_two(
-        [writing(0, 1), writing(0, 0)],
-        &parts,
-        b"abc",
-        &mut verdicts,
-        &mut words,
-        &mut bytes,
-    );
-    let number = call_two(
-        [reading(5, 1, 0), reading(5, 0, 1)],
-        &parts,
-        b"abc",
-        &mut verdicts,
-        &mut words,
-        &mut bytes,
-    );
-    show(stdout, number, &verdicts);
+    let _ = open::open(&mut words, &bytes, 4, 5, 64);
+    let before = [writing(0, 1), writing(0, 0)];
+    let _ = call(&before, &mut verdicts, &mut words, &mut bytes);
+    let members = [reading(5, 1, 0), reading(5, 0, 1)];
+    let judged = call(&members, &mut verdicts, &mut words, &mut bytes);
+    show(stdout, judged, &verdicts);
 }
 
 // 65 members, and two members with one verdict byte: 8, and no verdict is written.
@@ -150,26 +109,11 @@ fn refused(stdout: Stdout) {
     let mut bytes = [0u8; 64];
     let mut verdicts = [9u8; 2];
     let mut long = [9u8; 65];
-    let parts = PARTS;
-    open::open(&mut words, &bytes, 0, 5, 64);
+    let _ = open::open(&mut words, &bytes, 0, 5, 64);
     let member = writing(0, 0);
-    let number = call_many(
-        [member; 65],
-        &parts,
-        b"abc",
-        &mut long,
-        &mut words,
-        &mut bytes,
-    );
-    show(stdout, number, &verdicts);
-    let short = call_two(
-        [member, member],
-        &parts,
-        b"abc",
-        &mut verdicts[..1],
-        &mut words,
-        &mut bytes,
-    );
+    let judged = call(&[member; 65], &mut long, &mut words, &mut bytes);
+    show(stdout, judged, &verdicts);
+    let short = call(&[member; 2], &mut verdicts[..1], &mut words, &mut bytes);
     show(stdout, short, &verdicts);
 }
 

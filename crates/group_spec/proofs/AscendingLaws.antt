@@ -5,7 +5,7 @@ use mathlib.Core.Path.{◌≡◌, sym, ap, ◌∙◌, subst}
 use mathlib.Core.List.{List, [], ◌∷◌, ◌++◌}
 use lib.ListN.{length, set}
 use Rattle.base_key.specs.Bytes.{Bytes}
-use Rattle.store_memtable.specs.declared.merge.Front.{Front}
+use Rattle.store_memtable.specs.declared.Front.{Front}
 use Rattle.store_memtable.specs.Table.{Write, Ascending}
 use Rattle.store_memtable.specs.Versions.{commit}
 use Rattle.store_memtable.specs.Layout.{count_word, used_word, last_word, store_in, leave_words, leave_bytes}

@@ -1,18 +1,16 @@
 -- The writes of a member committed one after the other. Assumes nothing.
-use Prim.Native.Nat.{ℕ, suc, ◌+◌, ◌-◌, ◌*◌, ◌^◌, ◌≤◌, ◌<◌}
+use Prim.Native.Nat.{ℕ, ◌+◌, ◌-◌, ◌*◌, ◌^◌, ◌≤◌, ◌<◌}
 use native.Mathlib.Omega.{arith}
-use mathlib.Core.Path.{◌≡◌, refl, sym, ap, ◌∙◌, subst}
+use mathlib.Core.Path.{◌≡◌, sym, ap, ◌∙◌}
 use mathlib.Core.Bool.{true}
 use mathlib.Core.List.{List}
 use lib.ListN.{length}
 use Rattle.base_key.specs.Bytes.{Bytes}
 use Rattle.store_memtable.specs.Table.{Write}
-use Rattle.store_memtable.specs.Versions.{Version, Store, commit_one, commit}
+use Rattle.store_memtable.specs.Versions.{Store, commit_one, commit}
 use Rattle.store_memtable.specs.Layout.{count_word, used_word, last_word, most_versions_word, most_bytes_word, store_in, leave_words, leave_bytes}
 use Rattle.store_memtable.specs.Rows.{Valid}
-use Rattle.store_memtable.proofs.VersionLaws.{length_insert, size_insert}
-use Rattle.store_memtable.proofs.LayoutLaws.{words_left_long, bytes_left_long}
-use Rattle.store_memtable.proofs.Sequence.{Holds, holds_first, holds_valid, holds_store, holds_count, holds_used, holds_last, holds_most_versions, holds_most_bytes, holds_one}
+use Rattle.store_memtable.proofs.Sequence.{Holds, holds_first, one_more}
 use Rattle.group_spec.specs.Members.{list_from, all_from, write_at, write_inside}
 use Rattle.group_spec.specs.Settling.{WriteIn, WritesIn, size_at, sizes_from, RoomFor}
 use Rattle.group_spec.proofs.Walks.{list_next, list_end, all_here, all_later}
@@ -27,8 +25,6 @@ pub record Committing (w : List ℕ) (d : Bytes) (first count e : ℕ) (ws₀ bs
   pub rows_free : count_word ws + (e - i) ≤ most_versions_word ws
   pub bytes_free : used_word ws + sizes_from w i (e - i) ≤ most_bytes_word ws
   pub seqs_free : last_word ws + (e - i) < 2 ^ 64
-  pub same_words : length ws ≡ length ws₀
-  pub same_bytes_lem : length bs ≡ length bs₀
 
 pub committing_none : (w : List ℕ) (d : Bytes) (first count : ℕ) (ws bs : List ℕ) → WritesIn w d first count → Valid ws bs → RoomFor ws count (sizes_from w first count)
     → Committing w d first count (first + count) ws bs ws bs first
@@ -42,14 +38,9 @@ committing_none w d first count ws bs ok v r =
       rows_free = omega (arith, r.rows_free);
       bytes_free = omega (arith, r.bytes_free, ap (sizes_from w first) n);
       seqs_free = omega (arith, r.seqs_free);
-      same_words = refl;
-      same_bytes_lem = refl;
     }
 
 module _ {w : List ℕ} {d : Bytes} {first count e : ℕ} {ws₀ bs₀ ws bs : List ℕ} {i : ℕ} (p : Committing w d first count e ws₀ bs₀ ws bs i) where
-  pub committing_valid : Valid ws bs
-  committing_valid = holds_valid p.holds
-
   module _ (h : e ≤ i) where
     ended : commit (list_from (write_at w d) first count) (store_in ws₀ bs₀) ≡ store_in ws bs
     unfolding commit
@@ -74,34 +65,16 @@ module _ {w : List ℕ} {d : Bytes} {first count e : ℕ} {ws₀ bs₀ ws bs : L
         → bs' ≡ leave_bytes (commit_one (write_at w d i) (store_in ws bs)) bs → Committing w d first count e ws₀ bs₀ ws' bs' (i + 1)
     unfolding commit commit_one
     committing_more {ws'} {bs'} l p-words p-bytes =
-        let st : Store = store_in ws bs in
-        let wr : Write = write_at w d i in
-        let new : Version = record { key = wr.0; seq = suc st.last; value = wr.1 } in
         let s = sizes_next w h in
         let z = write_in_size w d i (next_in l) in
-        let c = holds_count p.holds in
-        let u = holds_used p.holds in
-        let q = holds_last p.holds in
-        let mv = holds_most_versions p.holds in
-        let mb = holds_most_bytes p.holds in
-        let h' : Holds (commit_one wr st) ws₀ bs₀ ws' bs' =
-        holds_one p.holds wr.0 wr.1 (omega (arith, p.rows_free, c, mv)) (omega (arith, p.bytes_free, s, z, u, mb)) p-words p-bytes in
-        let c' = holds_count h' in
-        let u' = holds_used h' in
-        let q' = holds_last h' in
-        let mv' = holds_most_versions h' in
-        let mb' = holds_most_bytes h' in
-        let n = length_insert new st.versions in
-        let m = size_insert new st.versions in
+        let m = one_more p.holds (write_at w d i) (omega (arith, p.rows_free)) (omega (arith, p.bytes_free, s, z)) p-words p-bytes in
         record {
           within = omega arith;
           all_in = all_later (write_inside w d) h p.all_in;
-          holds = subst (λ (x : Store). Holds x ws₀ bs₀ ws' bs') (sym (holds_store h')) h';
-          whole = p.whole ∙ ap (λ (x : List Write). commit x st) (list_next (write_at w d) h)
-              ∙ ap (commit (list_from (write_at w d) (i + 1) (e - (i + 1)))) (sym (holds_store h'));
-          rows_free = omega (arith, p.rows_free, c, c', n, mv, mv');
-          bytes_free = omega (arith, p.bytes_free, s, z, u, u', m, mb, mb');
-          seqs_free = omega (arith, p.seqs_free, q, q');
-          same_words = ap length h'.words_are ∙ words_left_long (commit_one wr st) ws₀ bs₀ h'.fits;
-          same_bytes_lem = ap length h'.bytes_are ∙ bytes_left_long (commit_one wr st) ws₀ bs₀ h'.fits;
+          holds = m.holds;
+          whole = p.whole ∙ ap (λ (x : List Write). commit x (store_in ws bs)) (list_next (write_at w d) h)
+              ∙ ap (commit (list_from (write_at w d) (i + 1) (e - (i + 1)))) m.store;
+          rows_free = omega (arith, p.rows_free, m.rows, m.most_rows);
+          bytes_free = omega (arith, p.bytes_free, s, z, m.used, m.most_bytes);
+          seqs_free = omega (arith, p.seqs_free, m.last);
         }

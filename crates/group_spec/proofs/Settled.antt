@@ -1,6 +1,6 @@
 -- What settling a member leaves: its verdict, and the store with its writes or as it was. Assumes nothing.
 use Prim.Native.Nat.{ℕ, ◌+◌, ◌*◌, ◌^◌, ◌≤◌}
-use mathlib.Core.Path.{◌≡◌, sym, ap, ◌∙◌}
+use mathlib.Core.Path.{◌≡◌, refl, sym, ap, ◌∙◌, subst}
 use mathlib.Core.Bool.{Bool, true, false, ◌&&◌}
 use mathlib.Core.List.{List}
 use lib.Dec.{leb, ltb}
@@ -10,16 +10,18 @@ use Rattle.base_key.specs.Bytes.{Bytes}
 use Rattle.base_key.proofs.Bytes.{both_parts}
 use Rattle.store_memtable.specs.Table.{Write}
 use Rattle.store_memtable.specs.Versions.{versions_size}
-use Rattle.store_memtable.specs.Layout.{count_word, used_word, last_word, most_versions_word, most_bytes_word, store_in, leave_words, leave_bytes}
+use Rattle.store_memtable.specs.Layout.{count_word, used_word, last_word, most_versions_word, most_bytes_word, store_in}
 use Rattle.store_memtable.specs.Rows.{Valid, room_in, versions_in}
 use Rattle.store_memtable.proofs.Opening.{room_is}
 use Rattle.store_memtable.proofs.Sequence.{leave_words_same, leave_bytes_same}
+use Rattle.store_commit.specs.declared.lent.StoreMut.{StoreMut}
+use Rattle.store_commit.specs.Leaving.{Leaves, store_of}
 use Rattle.group_spec.specs.declared.Member.{Member}
 use Rattle.group_spec.specs.declared.Verdict.{Verdict}
-use Rattle.group_spec.specs.declared.Verdict.TheVariants.{Accepted, Conflict, NoRoom, NoSequence}
-use Rattle.group_spec.specs.Group.{is_accepted, held_keys, has_room, has_sequences, store_after}
+use Rattle.group_spec.specs.declared.Verdict.TheVariants.{Accepted, Conflict, NoRoom, NoSequence, NotTaken}
+use Rattle.group_spec.specs.Group.{Pending, is_accepted, held_keys, has_room, has_sequences, store_after}
 use Rattle.group_spec.specs.Members.{write_at, member_inside, pending_of}
-use Rattle.group_spec.specs.Settling.{sizes_from, moved_since, judge_since, RoomFor}
+use Rattle.group_spec.specs.Settling.{sizes_from, moved_since, judge_since, step_verdict, RoomFor}
 use Rattle.group_spec.proofs.PartTests.{member_writes}
 use Rattle.group_spec.proofs.Walks.{list_long}
 use Rattle.group_spec.proofs.SizeLaws.{writes_size_lem}
@@ -35,14 +37,28 @@ room_granted ws n size r-is r-yes q-is q-yes =
     record { rows_free = leb-true _ _ p.0; bytes_free = leb-true _ _ p.1; seqs_free = ltb-true (last_word ws + n) (2 ^ 64) (sym q-is ∙ q-yes) }
 
 -- a member that is not accepted leaves the store
-module _ (ws bs : List ℕ) (l : List Write) (x : Verdict) (v : Valid ws bs) (refused : is_accepted x ≡ false) where
-  pub stays_words : ws ≡ leave_words (store_after x l (store_in ws bs)) ws
-  unfolding store_after
-  stays_words = rw refused (sym (leave_words_same ws bs v))
+pub stays : (s : StoreMut) (l : List Write) (x : Verdict) → is_accepted x ≡ false → Leaves (store_after x l (store_of s)) s s
+unfolding store_after
+stays s l x refused = record {
+  lent = record { words = refl; bytes = refl };
+  words_after = rw refused (sym (leave_words_same s.words.now s.bytes.now s.valid));
+  bytes_after = rw refused (sym (leave_bytes_same s.words.now s.bytes.now s.valid));
+}
 
-  pub stays_bytes : bs ≡ leave_bytes (store_after x l (store_in ws bs)) bs
-  unfolding store_after
-  stays_bytes = rw refused (sym (leave_bytes_same ws bs v))
+-- nor does one that is not taken
+pub untaken : (began : ℕ) (m : Pending) (s : StoreMut) {s' : StoreMut} {t : Bool} → t ≡ false → s' ≡ s
+    → Leaves (store_after (step_verdict t began (store_of s) m) m.writes (store_of s)) s s'
+unfolding step_verdict
+untaken began m s {s'} passed same =
+    subst (λ (b : Bool). Leaves (store_after (step_verdict b began (store_of s) m) m.writes (store_of s)) s s') (sym passed)
+    (subst (Leaves (store_after NotTaken m.writes (store_of s)) s) (sym same) (stays s m.writes NotTaken refl))
+
+pub not_accepted : (x : Verdict) → (x ≡ Accepted → ⊥) → is_accepted x ≡ false
+not_accepted Accepted h = absurd (h refl)
+not_accepted Conflict h = refl
+not_accepted NoRoom h = refl
+not_accepted NoSequence h = refl
+not_accepted NotTaken h = refl
 
 module _ (w : List ℕ) (d : Bytes) (m : Member) (ws bs : List ℕ) where
   -- THE VERDICT, test by test

@@ -12,9 +12,8 @@ use Rattle.base_key.specs.Keys.{Key}
 use Rattle.base_key.proofs.Bytes.{and_left, and_right}
 use Rattle.store_memtable.specs.Versions.{Store}
 use Rattle.store_memtable.specs.Layout.{store_in, leave_words, leave_bytes}
-use Rattle.store_memtable.specs.Rows.{Valid}
 use Rattle.store_memtable.proofs.LayoutLaws.{valid_sound}
-use Rattle.store_memtable.proofs.Sequence.{Holds, holds_first, holds_valid, holds_store}
+use Rattle.store_memtable.proofs.Sequence.{Holds, holds_first, holds_store}
 use Rattle.group_spec.specs.declared.Member.{Member}
 use Rattle.group_spec.specs.declared.Verdict.{Verdict}
 use Rattle.group_spec.specs.Group.{Finished, verdict_byte, written_after, store_after}
@@ -67,9 +66,6 @@ pub record Walking (ms : List Member) (began : ℕ) (parts : List ℕ) (d : Byte
   pub rest : step_all parts d began 0 0 ms (store_in w₀ b₀) ≡ onto settled (step_all parts d began i room (drop i ms) store)
   pub behind : members_inside parts d (drop i ms) ≡ true
   pub front : v ≡ over_front (map verdict_byte settled) v₀
-  pub words_long : length w ≡ length w₀
-  pub bytes_long : length b ≡ length b₀
-  pub verdicts_long : length v ≡ length v₀
 
 module _ {ms : List Member} {began : ℕ} {parts : List ℕ} {d : Bytes} {w₀ b₀ v₀ : List ℕ} where
   pub walking_first : GroupReady ms began parts d w₀ b₀ v₀ → Walking ms began parts d w₀ b₀ v₀ 0 0 w₀ b₀ v₀
@@ -84,15 +80,9 @@ module _ {ms : List Member} {began : ℕ} {parts : List ℕ} {d : Bytes} {w₀ b
     rest = refl;
     behind = g.all_inside;
     front = refl;
-    words_long = refl;
-    bytes_long = refl;
-    verdicts_long = refl;
   }
 
   module _ {i room : ℕ} {w b v : List ℕ} (k : Walking ms began parts d w₀ b₀ v₀ i room w b v) where
-    pub walking_valid : Valid w b
-    walking_valid = holds_valid k.holds
-
     pub walking_inside : (m₀ : Member) → i < length ms → member_inside parts d (get_or ms i m₀) ≡ true
     unfolding members_inside
     walking_inside m₀ h = and_left _ _ (sym (ap (members_inside parts d) (drop-cons ms i m₀ h)) ∙ k.behind)
@@ -133,9 +123,9 @@ module _ {ms : List Member} {began : ℕ} {parts : List ℕ} {d : Bytes} {w₀ b
       one_more : length (k.settled ++ (verdict ∷ [])) ≡ suc i
       one_more = let e = length-append k.settled (verdict ∷ []) in omega (arith, k.count)
 
-      pub walking_more : length w' ≡ length w → length b' ≡ length b → length v' ≡ length v → Walking ms began parts d w₀ b₀ v₀ (suc i) r w' b' v'
+      pub walking_more : Walking ms began parts d w₀ b₀ v₀ (suc i) r w' b' v'
       unfolding members_inside
-      walking_more lw lb lv = record {
+      walking_more = record {
         store = after;
         written = written_after verdict (pending_of parts d m) k.written;
         settled = k.settled ++ (verdict ∷ []);
@@ -147,9 +137,6 @@ module _ {ms : List Member} {began : ℕ} {parts : List ℕ} {d : Bytes} {w₀ b
             (sym (append_assoc k.settled (verdict ∷ []) (step_all parts d began (suc i) r (drop (suc i) ms) after).verdicts));
         behind = and_right _ _ (sym (ap (members_inside parts d) (drop-cons ms i m₀ h)) ∙ k.behind);
         front = byte_is;
-        words_long = lw ∙ k.words_long;
-        bytes_long = lb ∙ k.bytes_long;
-        verdicts_long = lv ∙ k.verdicts_long;
       }
 
   -- all members

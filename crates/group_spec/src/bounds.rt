@@ -3,6 +3,7 @@ ghost use Rattle.std.specs.Prelude.{◌≡◌, ◌+◌, ◌*◌, ◌≤◌, ◌<
 ghost use Rattle.group_spec.specs.Members.{all_from, inside, value_inside, write_inside, check_inside, member_inside};
 
 use crate::Member;
+use crate::parts::Parts;
 use store_memtable::read;
 
 // Do `size` elements from `start` on lie within `len`?
@@ -13,11 +14,15 @@ fn fits(start: usize, size: usize, len: usize) -> bool
 }
 
 // Lies the part in the data whose start and length stand at place `at` of the table?
-fn key_inside(parts: &[u64], data: &[u8], at: usize) -> bool
-    requires { at + 1 < length parts.now }
-    ensures { result ≡ inside (get_or parts.now at 0) (get_or parts.now (at + 1) 0) «data».now }
+fn key_inside(parts: Parts, at: usize) -> bool
+    requires { at + 1 < length parts.table.now }
+    ensures { result ≡ inside (get_or parts.entry.table.now at 0) (get_or parts.entry.table.now (at + 1) 0) parts.entry.«data».now }
 {
-    fits(read::word(parts, at), read::word(parts, at + 1), data.len())
+    fits(
+        read::word(parts.table, at),
+        read::word(parts.table, at + 1),
+        parts.data.len(),
+    )
 }
 
 // Lies the value in the data that starts at `start` and has this value word? A tombstone has none.
@@ -28,37 +33,37 @@ fn value_inside(start: usize, word: usize, data: &[u8]) -> bool
 }
 
 // Lie the key and the value of write j in the data?
-fn write_inside(parts: &[u64], data: &[u8], j: usize) -> bool
-    requires { 4 * j + 4 ≤ length parts.now }
-    ensures { result ≡ write_inside parts.now «data».now j }
+fn write_inside(parts: Parts, j: usize) -> bool
+    requires { 4 * j + 4 ≤ length parts.table.now }
+    ensures { result ≡ write_inside parts.entry.table.now parts.entry.«data».now j }
 {
     let at = 4 * j;
-    key_inside(parts, data, at)
-        && value_inside(read::word(parts, at + 2), read::word(parts, at + 3), data)
+    let start = read::word(parts.table, at + 2);
+    key_inside(parts, at) && value_inside(start, read::word(parts.table, at + 3), parts.data)
 }
 
 // Lie the keys and values of `count` writes from write `first` on in the data?
-fn writes_inside(parts: &[u64], data: &[u8], first: usize, count: usize) -> bool
-    requires { 4 * (first + count) ≤ length parts.now }
-    ensures { result ≡ all_from (write_inside parts.now «data».now) first count }
+fn writes_inside(parts: Parts, first: usize, count: usize) -> bool
+    requires { 4 * (first + count) ≤ length parts.table.now }
+    ensures { result ≡ all_from (write_inside parts.entry.table.now parts.entry.«data».now) first count }
 {
-    (first..first + count).all(|j| write_inside(parts, data, j))
+    (first..first + count).all(|j| write_inside(parts, j))
 }
 
 // Lie `count` checked keys from check `first` on in the data?
-fn checks_inside(parts: &[u64], data: &[u8], first: usize, count: usize) -> bool
-    requires { 2 * (first + count) ≤ length parts.now }
-    ensures { result ≡ all_from (check_inside parts.now «data».now) first count }
+fn checks_inside(parts: Parts, first: usize, count: usize) -> bool
+    requires { 2 * (first + count) ≤ length parts.table.now }
+    ensures { result ≡ all_from (check_inside parts.entry.table.now parts.entry.«data».now) first count }
 {
-    (first..first + count).all(|j| key_inside(parts, data, 2 * j))
+    (first..first + count).all(|j| key_inside(parts, 2 * j))
 }
 
 // Lie the member's rows in the table, and its keys and values in the data?
-pub fn member_inside(member: Member, parts: &[u64], data: &[u8]) -> bool
-    ensures { result ≡ member_inside parts.now «data».now member }
+pub fn member_inside(member: Member, parts: Parts) -> bool
+    ensures { result ≡ member_inside parts.entry.table.now parts.entry.«data».now member }
 {
-    fits(member.first_write, member.writes, parts.len() / 4)
-        && fits(member.first_check, member.checks, parts.len() / 2)
-        && writes_inside(parts, data, member.first_write, member.writes)
-        && checks_inside(parts, data, member.first_check, member.checks)
+    fits(member.first_write, member.writes, parts.table.len() / 4)
+        && fits(member.first_check, member.checks, parts.table.len() / 2)
+        && writes_inside(parts, member.first_write, member.writes)
+        && checks_inside(parts, member.first_check, member.checks)
 }

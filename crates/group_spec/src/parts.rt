@@ -1,29 +1,61 @@
 // The parts of the lent data: keys and values by their places in the table.
 ghost use Rattle.std.specs.Prelude.{◌≡◌, true, ◌-◌};
 ghost use Rattle.base_key.specs.Bytes.{part};
-ghost use Rattle.group_spec.specs.Members.{value_inside};
-ghost use Rattle.group_spec.specs.Settling.{key_part, KeyIn};
+ghost use Rattle.store_memtable.specs.Rows.{value_if};
+ghost use Rattle.group_spec.specs.Members.{value_inside, write_at};
+ghost use Rattle.group_spec.specs.Settling.{key_part, KeyIn, WriteIn};
 
 use store_memtable::read;
 
-// The key whose place stands at `at` of the table.
-pub fn key_part<'a, 'b>(parts: &'a [u64], data: &'b [u8], at: usize) -> &'b [u8]
-    requires { KeyIn parts.now «data».now at }
-    ensures { result.now ≡ key_part parts.now «data».now at }
-{
-    let start = read::word(parts, at);
-    let end = start + read::word(parts, at + 1);
-    &data[start..end]
+// A write: its key, and its value where it is live, else a tombstone.
+#[derive(Clone, Copy)]
+pub struct Write<'a> {
+    pub name: &'a [u8],
+    pub value: &'a [u8],
+    pub live: bool,
 }
 
-// The value that starts at `start` and has this value word, one more than its length: no bytes of a tombstone.
-pub fn value_part<'a>(data: &'a [u8], start: usize, word: usize) -> &'a [u8]
-    requires { value_inside start word «data».now ≡ true }
-    ensures { result.now ≡ part start (word - 1) «data».now }
-{
-    if word == 0 {
-        &[]
-    } else {
-        &data[start..start + (word - 1)]
+// A lent table of parts, over the bytes that they lie in.
+#[derive(Clone, Copy)]
+pub struct Parts<'a> {
+    pub table: &'a [u64],
+    pub data: &'a [u8],
+}
+
+impl<'a> Parts<'a> {
+    // The key whose place stands at `at` of the table. `KeyIn` is about the place that is given, another at each call: no struct keeps it.
+    pub fn key(&self, at: usize) -> &'a [u8]
+        requires { KeyIn self.now.table.now self.now.«data».now at }
+        ensures { result.now ≡ key_part self.now.table.now self.now.«data».now at }
+    {
+        let start = read::word(self.table, at);
+        let end = start + read::word(self.table, at + 1);
+        &self.data[start..end]
+    }
+
+    // The value that starts at `start` and has this value word, one more than its length: no bytes of a tombstone.
+    pub fn value(&self, start: usize, word: usize) -> &'a [u8]
+        requires { value_inside start word self.now.«data».now ≡ true }
+        ensures { result.now ≡ part start (word - 1) self.now.«data».now }
+    {
+        if word == 0 {
+            &[]
+        } else {
+            &self.data[start..start + (word - 1)]
+        }
+    }
+
+    // Write j. `WriteIn` is about the write that is given, as `KeyIn` is.
+    pub fn write_at(&self, j: usize) -> Write<'a>
+        requires { WriteIn self.now.table.now self.now.«data».now j }
+        ensures { write_at self.now.table.now self.now.«data».now j ≡ (result.name.now, value_if result.live result.value.now) }
+    {
+        let at = 4 * j;
+        let word = read::word(self.table, at + 3);
+        Write {
+            name: self.key(at),
+            value: self.value(read::word(self.table, at + 2), word),
+            live: word != 0,
+        }
     }
 }

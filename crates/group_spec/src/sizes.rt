@@ -1,5 +1,5 @@
 // The size of a member's writes, by what it leaves of some bytes, and the take rule. It subtracts, so that no sum wraps.
-ghost use Rattle.std.specs.Prelude.{◌≡◌, ◌+◌, ◌*◌, ◌^◌, ◌≤◌, ◌<◌, length};
+ghost use Rattle.std.specs.Prelude.{◌≡◌, ◌+◌, ◌*◌, ◌≤◌, length};
 ghost use Rattle.store_memtable.specs.Rows.{bytes_left};
 ghost use Rattle.group_spec.specs.Settling.{as_room, room_after, size_at, sizes_from, taken_at};
 
@@ -23,42 +23,29 @@ pub fn writes_left(parts: &[u64], first: usize, count: usize, left: usize) -> Op
 {
     let mut rest = left;
     for j in first..first + count {
-        let Some(after) = write_left(parts, j, rest) else {
-            return None;
-        };
-        rest = after;
+        rest = write_left(parts, j, rest)?;
     }
     Some(rest)
 }
 
-// One more than the rest, or 0.
-fn as_room(left: Option<usize>) -> usize
-    requires { as_room left < 2 ^ 64 }
-    ensures { result ≡ as_room left }
-{
-    match left {
-        Some(n) => n + 1,
-        None => 0,
-    }
-}
-
-// The room after member i, whose writes these are: 0 where no more is taken, else one more than what is left of 1,048,576 bytes.
-pub fn room_after(parts: &[u64], first: usize, count: usize, i: usize, room: usize) -> usize
+// What the members up to member i, whose writes these are, leave of 1,048,576 bytes, where it is taken: the first is, whatever its size.
+pub fn room_after(
+    parts: &[u64],
+    first: usize,
+    count: usize,
+    i: usize,
+    room: Option<usize>,
+) -> Option<usize>
     requires { 4 * (first + count) ≤ length parts.now }
-    ensures { result ≡ room_after i room (sizes_from parts.now first count) }
+    ensures { as_room result ≡ room_after i (as_room room) (sizes_from parts.now first count) }
 {
-    if i == 0 {
-        as_room(writes_left(parts, first, count, 1048576))
-    } else if room == 0 {
-        0
-    } else {
-        as_room(writes_left(parts, first, count, room - 1))
-    }
+    let left = if i == 0 { 1048576 } else { room? };
+    writes_left(parts, first, count, left)
 }
 
 // Is member i taken, where this room is after it?
-pub fn taken_at(i: usize, after: usize) -> bool
-    ensures { result ≡ taken_at i after }
+pub fn taken_at(i: usize, after: Option<usize>) -> bool
+    ensures { result ≡ taken_at i (as_room after) }
 {
-    i == 0 || after != 0
+    i == 0 || after.is_some()
 }

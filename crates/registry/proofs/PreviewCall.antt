@@ -8,7 +8,7 @@ use lib.Dec.{ltb}
 use lib.ListN.{length, replicate}
 use Rattle.base_key.specs.Bytes.{Bytes}
 use Rattle.command_spec.specs.Finish.{reply_buffer}
-use Rattle.exec_decision.specs.declared.Preview.{Preview}
+use Rattle.exec_decision.specs.Numbers.{PreviewNumbers}
 use Rattle.exec_decision.specs.Decided.{refused_preview}
 use Rattle.call_spec.specs.Calls.{lent_of, valid, Called, refuses, preview_call, preview_of, PreviewPromise}
 use Rattle.call_spec.proofs.CallLaws.{preview_no_session, preview_not_valid}
@@ -17,7 +17,7 @@ use Rattle.registry.proofs.RequestCall.{number_as}
 
 module _ (i : ℕ) (w : List ℕ) (b : Bytes) (sw : List ℕ) (sb : Bytes) {n : ℕ} (n-is : n ≡ request_number i (lent_of w b sw sb)) (out : Bytes) {out₁ : Bytes} (cleared : out₁ ≡ replicate (length out) 0) where
   -- 1 and 9
-  pub preview_refused : {r : Preview} → (n ≡ 0 → ⊥) → r ≡ refused_preview n → PreviewPromise i out (lent_of w b sw sb) r out₁ (lent_of w b sw sb)
+  pub preview_refused : {r : PreviewNumbers} → (n ≡ 0 → ⊥) → r ≡ refused_preview n → PreviewPromise i out (lent_of w b sw sb) r out₁ (lent_of w b sw sb)
   unfolding reply_buffer
   preview_refused {r} nz a = go (ltb i 16) (valid (lent_of w b sw sb)) refl refl
     where

@@ -8,7 +8,7 @@ use lib.Dec.{ltb}
 use lib.ListN.{length, replicate, length-replicate}
 use borrow.Author.Tests.{ltb-true}
 use Rattle.base_key.specs.Bytes.{Bytes}
-use Rattle.command_spec.specs.declared.Answer.{Answer}
+use Rattle.command_spec.specs.Numbers.{AnswerNumbers}
 use Rattle.command_spec.specs.Finish.{reply_buffer}
 use Rattle.command_answer.specs.Answers.{refusal}
 use Rattle.call_spec.specs.Calls.{lent_of, valid, Called, refuses, answer_of, request_call, RequestPromise, TablePromise}
@@ -46,7 +46,7 @@ module _ (i : ℕ) (w : List ℕ) (b : Bytes) (sw : List ℕ) (sb : Bytes) {n : 
     }
 
     -- 1 and 9 leave all
-    pub request_refused : (input : Bytes) (places : ℕ) {r : Answer} → (n ≡ 0 → ⊥) → r ≡ refusal n → RequestPromise i input places out (lent_of w b sw sb) r out₁ (lent_of w b sw sb)
+    pub request_refused : (input : Bytes) (places : ℕ) {r : AnswerNumbers} → (n ≡ 0 → ⊥) → r ≡ refusal n → RequestPromise i input places out (lent_of w b sw sb) r out₁ (lent_of w b sw sb)
     unfolding reply_buffer
     request_refused input places {r} nz a = go (ltb i 16) (valid (lent_of w b sw sb)) refl refl
       where

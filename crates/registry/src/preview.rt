@@ -1,24 +1,18 @@
 // A preview of EXEC of one of the sixteen sessions.
-ghost use Rattle.call_spec.specs.Calls.{PreviewPromise, lent_of};
+ghost use Rattle.exec_decision.specs.Numbers.{preview_numbers};
+ghost use Rattle.call_numbers.specs.Lending.{lent_read};
+ghost use Rattle.call_spec.specs.Calls.{PreviewPromise};
 
+use call_numbers::lent::Lent;
+use command_spec::CallError;
 use exec_decision::Preview;
 
-// What EXEC of a session would give: 0 or a number, the verdict (255: none is reached), the length of the reply, which stands in front of `out`
-// with zero behind it, and the last sequence that EXEC would leave. Store and sessions stay as they are.
-pub fn preview(
-    session: usize,
-    words: &[u64],
-    bytes: &[u8],
-    swords: &[u64],
-    sbytes: &[u8],
-    out: &mut [u8],
-) -> Preview
-    ensures { PreviewPromise session out.old (lent_of words.now bytes.now swords.now sbytes.now) result out.new (lent_of words.now bytes.now swords.now sbytes.now) }
+// What EXEC of a session would give: the verdict, the length of the reply, which stands in front of `out` with zero behind it, and the last
+// sequence that EXEC would leave.
+pub fn preview(session: usize, lent: &Lent, out: &mut [u8]) -> Result<Preview, CallError>
+    ensures { PreviewPromise session out.old (lent_read lent.now) (preview_numbers result) out.new (lent_read lent.now) }
 {
     base_writing::clear(out);
-    let number = call_numbers::request_number(session, words, bytes, swords, sbytes);
-    if number != 0 {
-        return exec_decision::refusal(number);
-    }
-    call_serve::preview_session(session, words, bytes, swords, sbytes, out)
+    call_numbers::check_request(session, lent)?;
+    call_serve::preview_session(session, lent, out)
 }

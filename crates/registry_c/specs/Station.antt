@@ -7,11 +7,11 @@ use Rattle.store_memtable.specs.Versions.{find_from}
 use Rattle.store_memtable.specs.Layout.{count_word, last_word, start_word, key_word, value_word, value_start, valid_store}
 use Rattle.store_memtable.specs.Rows.{live_found, versions_in}
 use Rattle.store_memtable.specs.Walk.{next_live}
-use Rattle.command_spec.specs.declared.Answer.{Answer}
+use Rattle.command_spec.specs.Numbers.{AnswerNumbers}
 use Rattle.reply_item.specs.declared.ReplyRead.{ReplyRead}
-use Rattle.reply_item.specs.declared.ReplyRead.TheVariants.{Wait, Whole, Fault, Returned}
-use Rattle.reply_item.specs.Replies.{answer_of, table_of, read_reply}
-use Rattle.exec_decision.specs.declared.Preview.{Preview}
+use Rattle.reply_item.specs.declared.ReplyRead.TheVariants.{Wait, Whole, Fault, Refused}
+use Rattle.reply_item.specs.Replies.{refusal_number, answer_of, table_of, read_reply}
+use Rattle.exec_decision.specs.Numbers.{PreviewNumbers}
 use Rattle.registry_c.specs.declared.Answered.{Answered}
 use Rattle.registry_c.specs.declared.Previewed.{Previewed}
 use Rattle.registry_c.specs.declared.Reading.{Reading}
@@ -19,11 +19,11 @@ use Rattle.registry_c.specs.declared.Listed.{Listed}
 use Rattle.registry_c.specs.declared.ReplyAnswer.{ReplyAnswer}
 
 -- the struct that a request returns here, as the one that the published call returns
-abbrev pub answer_in : Answered → Answer
+abbrev pub answer_in : Answered → AnswerNumbers
 answer_in a = record { number = a.number; used = a.used; reply = a.reply }
 
 -- and the struct that a preview returns here
-abbrev pub preview_in : Previewed → Preview
+abbrev pub preview_in : Previewed → PreviewNumbers
 preview_in p = record { number = p.number; verdict = p.verdict; reply = p.reply; last = p.last }
 
 -- no value, with this number
@@ -89,7 +89,7 @@ unfoldable pub reply_answer : ReplyRead → ReplyAnswer
 reply_answer Wait = reply_words 0 0 0 0 0
 reply_answer (Whole used items) = reply_words 0 1 used items 0
 reply_answer (Fault offset) = reply_words 0 2 0 0 offset
-reply_answer (Returned number) = reply_words number 3 0 0 0
+reply_answer (Refused refusal) = reply_words (refusal_number refusal) 3 0 0 0
 
 -- the answer and the whole of the lent table are those of the definition
 pub record ReplyPromise (input entry : List ℕ) (r : ReplyAnswer) (exit : List ℕ) : Type 0 where

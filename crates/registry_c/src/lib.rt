@@ -1,17 +1,21 @@
 // The published calls and the readings of a table, for programs in C and Rust. A slice goes over as a pointer and a count.
+// Errors are numbers here, and flags, verdicts and states are words, since C has no other form for them.
 #![tactic(auto)]
 
-ghost use Rattle.std.specs.Prelude.{◌≡◌, ◌/◌, length};
-ghost use Rattle.store_memtable.specs.Rows.{RowIn, Valid};
+ghost use Rattle.std.specs.Prelude.{◌≡◌, ◌/◌, ◌<◌, length};
+ghost use Rattle.store_memtable.specs.Layout.{count_word};
+ghost use Rattle.command_spec.specs.Numbers.{answer_numbers, number_of};
+ghost use Rattle.exec_decision.specs.Numbers.{preview_numbers};
 ghost use Rattle.call_spec.specs.Calls.{GroupPromise, OpenPromise, PreviewPromise, RequestPromise, TablePromise, lent_of};
 ghost use Rattle.registry_c.specs.Station.{answer_in, entry_call, last_reading, listed_at, next_listed, no_listed, no_reading, preview_in, read_call, reading_at, reply_answer, ReplyPromise};
 
-use command_spec::Answer;
+use call_numbers::lent::{Lent, LentMut};
+use command_spec::{Answer, CallError};
 use exec_decision::Preview;
 use group_spec::Member;
 use reply_item::ReplyRead;
-use store_commit::valid;
-use store_memtable::{LAST, live, read};
+use store_memtable::store::Store;
+use store_memtable::{LAST, read};
 
 // What a request returns: 0 or a number of document 01, the bytes used, and the length of the reply.
 #[repr(C)]
@@ -22,14 +26,21 @@ pub struct Answered {
     pub reply: usize,
 }
 
-impl From<Answer> for Answered {
-    ghost from_gives = { λ answer result. answer ≡ answer_in result };
+impl From<Result<Answer, CallError>> for Answered {
+    ghost from_gives = { λ answer result. answer_numbers answer ≡ answer_in result };
 
-    fn from(answer: Answer) -> Answered {
-        Answered {
-            number: answer.number,
-            used: answer.used,
-            reply: answer.reply,
+    fn from(answer: Result<Answer, CallError>) -> Answered {
+        match answer {
+            Ok(Answer { used, reply }) => Answered {
+                number: 0,
+                used,
+                reply,
+            },
+            Err(error) => Answered {
+                number: error.into(),
+                used: 0,
+                reply: 0,
+            },
         }
     }
 }
@@ -44,15 +55,26 @@ pub struct Previewed {
     pub last: u64,
 }
 
-impl From<Preview> for Previewed {
-    ghost from_gives = { λ preview result. preview ≡ preview_in result };
+// The verdict of a preview that reached none.
+const NONE_REACHED: u64 = 255;
 
-    fn from(preview: Preview) -> Previewed {
-        Previewed {
-            number: preview.number,
-            verdict: preview.verdict,
-            reply: preview.reply,
-            last: preview.last,
+impl From<Result<Preview, CallError>> for Previewed {
+    ghost from_gives = { λ preview result. preview_numbers preview ≡ preview_in result };
+
+    fn from(preview: Result<Preview, CallError>) -> Previewed {
+        match preview {
+            Ok(preview) => Previewed {
+                number: 0,
+                verdict: u8::from(preview.verdict).into(),
+                reply: preview.reply,
+                last: preview.last,
+            },
+            Err(error) => Previewed {
+                number: error.into(),
+                verdict: NONE_REACHED,
+                reply: 0,
+                last: 0,
+            },
         }
     }
 }
@@ -128,14 +150,24 @@ impl From<ReplyRead> for ReplyAnswer {
                 items: 0,
                 offset,
             },
-            ReplyRead::Returned(number) => ReplyAnswer {
-                number,
+            ReplyRead::Refused(refusal) => ReplyAnswer {
+                number: u64::from(refusal),
                 state: REFUSED,
                 used: 0,
                 items: 0,
                 offset: 0,
             },
         }
+    }
+}
+
+// The number of a call that gives nothing else.
+fn number_of(done: Result<(), CallError>) -> u64
+    ensures { result ≡ number_of done }
+{
+    match done {
+        Ok(()) => 0,
+        Err(error) => error.into(),
     }
 }
 
@@ -150,7 +182,7 @@ pub extern "C" fn registry_open(
 ) -> u64
     ensures { OpenPromise last versions size words.old bytes.now result words.new bytes.now }
 {
-    registry::open::open(words, bytes, last, versions, size)
+    number_of(registry::open::open(words, bytes, last, versions, size))
 }
 
 // Answers the request at the front of `input` for a session. The reply stands in front of `out`, with zero behind it.
@@ -168,10 +200,13 @@ pub extern "C" fn registry_request(
     ensures request_promise { RequestPromise session input.now (length places.old / 2) out.old (lent_of words.old bytes.old swords.old sbytes.old) (answer_in result) out.new (lent_of words.new bytes.new swords.new sbytes.new) }
     ensures table_promise { TablePromise session input.now (lent_of words.old bytes.old swords.old sbytes.old) places.old places.new }
 {
-    let answer = registry::request::request(
-        session, input, places, words, bytes, swords, sbytes, out,
-    );
-    Answered::from(answer)
+    let lent = &mut LentMut {
+        words,
+        bytes,
+        session_words: swords,
+        session_bytes: sbytes,
+    };
+    registry::request::request(session, input, places, lent, out).into()
 }
 
 // What EXEC of a session would give. The reply stands in front of `out`, with zero behind it; store and sessions stay as they are.
@@ -186,8 +221,13 @@ pub extern "C" fn registry_preview(
 ) -> Previewed
     ensures { PreviewPromise session out.old (lent_of words.now bytes.now swords.now sbytes.now) (preview_in result) out.new (lent_of words.now bytes.now swords.now sbytes.now) }
 {
-    let preview = registry::preview::preview(session, words, bytes, swords, sbytes, out);
-    Previewed::from(preview)
+    let lent = Lent {
+        words,
+        bytes,
+        session_words: swords,
+        session_bytes: sbytes,
+    };
+    registry::preview::preview(session, &lent, out).into()
 }
 
 // Judges a group and commits the accepted members: 0, or 8 or 9, which leave all. A verdict byte is written for each member.
@@ -202,21 +242,21 @@ pub extern "C" fn registry_group(
 ) -> u64
     ensures { GroupPromise members.now parts.now «data».now verdicts.old words.old bytes.old result verdicts.new words.new bytes.new }
 {
-    registry::group::group(members, parts, data, verdicts, words, bytes)
+    number_of(registry::group::group(members, parts, data, verdicts, words, bytes))
 }
 
 // The value of version i.
-fn value_at(words: &[u64], bytes: &[u8], i: usize) -> Reading
-    requires { RowIn words.now bytes.now i }
-    ensures { result ≡ reading_at words.now i }
+fn value_at(store: &Store, i: usize) -> Reading
+    requires { i < count_word store.now.words.now }
+    ensures { result ≡ reading_at store.now.words.now i }
 {
     let row = 5 + 4 * i;
-    let start = read::word(words, row) + read::word(words, row + 1);
+    let start = read::word(store.words, row) + read::word(store.words, row + 1);
     Reading {
         number: 0,
         found: 1,
         start,
-        size: read::value_len(read::word(words, row + 2)),
+        size: read::value_len(read::word(store.words, row + 2)),
     }
 }
 
@@ -232,38 +272,37 @@ fn no_value(number: u64) -> Reading
     }
 }
 
-// The value of a key at the last sequence of a valid store.
+// The value of a key at the last sequence.
 #[tactic(auto, unfolding(crate::specs::Station::last_reading, crate::specs::Station::reading_of))]
-fn value_of(words: &[u64], bytes: &[u8], name: &[u8]) -> Reading
-    requires { Valid words.now bytes.now }
-    ensures { result ≡ last_reading words.now bytes.now name.now }
+fn value_of(store: &Store, name: &[u8]) -> Reading
+    ensures { result ≡ last_reading store.now.words.now store.now.bytes.now name.now }
 {
-    match read::find_value(words, bytes, name, words[LAST]) {
-        Some(i) => value_at(words, bytes, i),
+    match store.find_value(name, store.words[LAST]) {
+        Some(i) => value_at(store, i),
         None => no_value(0),
     }
 }
 
 // The value of a key at the last sequence.
-#[tactic(auto, using(store_memtable::proofs::Validity::validated), unfolding(crate::specs::Station::read_call))]
+#[tactic(auto, unfolding(crate::specs::Station::read_call))]
 #[unsafe(no_mangle)]
 pub extern "C" fn registry_read(words: &[u64], bytes: &[u8], name: &[u8]) -> Reading
     ensures { result ≡ read_call words.now bytes.now name.now }
 {
-    if valid::validate(words, bytes) {
-        return value_of(words, bytes, name);
+    match Store::new(words, bytes) {
+        Some(store) => value_of(&store, name),
+        None => no_value(CallError::MemoryUnfit.into()),
     }
-    no_value(9)
 }
 
 // Key and value of version i.
-fn entry_at(words: &[u64], bytes: &[u8], i: usize) -> Listed
-    requires { RowIn words.now bytes.now i }
-    ensures { result ≡ listed_at words.now i }
+fn entry_at(store: &Store, i: usize) -> Listed
+    requires { i < count_word store.now.words.now }
+    ensures { result ≡ listed_at store.now.words.now i }
 {
     let row = 5 + 4 * i;
-    let start = read::word(words, row);
-    let size = read::word(words, row + 1);
+    let start = read::word(store.words, row);
+    let size = read::word(store.words, row + 1);
     Listed {
         number: 0,
         found: 1,
@@ -271,7 +310,7 @@ fn entry_at(words: &[u64], bytes: &[u8], i: usize) -> Listed
         key_start: start,
         key_size: size,
         value_start: start + size,
-        value_size: read::value_len(read::word(words, row + 2)),
+        value_size: read::value_len(read::word(store.words, row + 2)),
     }
 }
 
@@ -290,28 +329,27 @@ fn no_entry(number: u64) -> Listed
     }
 }
 
-// The first live key of a valid store at or behind the place `from`.
+// The first live key at or behind the place `from`.
 #[tactic(auto, unfolding(crate::specs::Station::next_listed, crate::specs::Station::listed_of))]
-fn entry_from(words: &[u64], bytes: &[u8], from: usize) -> Listed
-    requires { Valid words.now bytes.now }
-    ensures { result ≡ next_listed words.now bytes.now from }
+fn entry_from(store: &Store, from: usize) -> Listed
+    ensures { result ≡ next_listed store.now.words.now store.now.bytes.now from }
 {
-    match live::next_live(words, bytes, from) {
-        Some(i) => entry_at(words, bytes, i),
+    match store.next_live(from) {
+        Some(i) => entry_at(store, i),
         None => no_entry(0),
     }
 }
 
 // The first live key at or behind the place `from`. A walk begins at 0 and goes on at `next`.
-#[tactic(auto, using(store_memtable::proofs::Validity::validated), unfolding(crate::specs::Station::entry_call))]
+#[tactic(auto, unfolding(crate::specs::Station::entry_call))]
 #[unsafe(no_mangle)]
 pub extern "C" fn registry_entry_from(words: &[u64], bytes: &[u8], from: usize) -> Listed
     ensures { result ≡ entry_call words.now bytes.now from }
 {
-    if valid::validate(words, bytes) {
-        return entry_from(words, bytes, from);
+    match Store::new(words, bytes) {
+        Some(store) => entry_from(&store, from),
+        None => no_entry(CallError::MemoryUnfit.into()),
     }
-    no_entry(9)
 }
 
 // Reads the reply at the front of `input` into the table `items`, four words for an item.

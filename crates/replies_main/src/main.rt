@@ -3,11 +3,12 @@
 // `stdout` has the answers that document 02 asks for, from a reader that was written apart from this one.
 #![tactic(auto)]
 
-ghost use Rattle.std.specs.Prelude.{◌≤◌, length};
+ghost use Rattle.std.specs.Prelude.{◌≤◌, ◌<◌, length};
+ghost use Rattle.std.specs.Option.{IfSome};
 
 use reply_item::ReplyRead;
 use reply_reader::table;
-use std::io::{Read, Stdin, Stdout};
+use std::io::{Stdin, Stdout};
 
 // The words of a table with sixteen places.
 const TABLE_WORDS: usize = 64;
@@ -23,14 +24,13 @@ fn number(stdout: Stdout, n: u64) {
 
 // All words of the table: the items, and the zeros behind them.
 fn words(stdout: Stdout, table: &[u64]) {
-    let mut i = 0;
-    while i < table.len() {
-        number(stdout, table[i]);
-        i += 1;
+    for word in table {
+        number(stdout, *word);
     }
 }
 
 fn answer(stdout: Stdout, read: ReplyRead) {
+    // A `match`: the input tells which runs, and no function may hand a closure out.
     match read {
         ReplyRead::Wait => text(stdout, b"wait:"),
         ReplyRead::Fault(offset) => {
@@ -38,9 +38,9 @@ fn answer(stdout: Stdout, read: ReplyRead) {
             number(stdout, offset as u64);
             text(stdout, b":")
         }
-        ReplyRead::Returned(returned) => {
+        ReplyRead::Refused(refusal) => {
             text(stdout, b"number");
-            number(stdout, returned);
+            number(stdout, u64::from(refusal));
             text(stdout, b":")
         }
         ReplyRead::Whole(used, count) => {
@@ -72,53 +72,40 @@ fn show(stdout: Stdout, input: &[u8], places: usize)
 fn places_of(byte: u8) -> usize
     ensures { result ≤ 9 }
 {
-    if byte < b'0' {
-        return 0;
-    }
-    if b'9' < byte {
-        return 9;
-    }
-    (byte - b'0') as usize
+    byte.saturating_sub(b'0').min(9) as usize
 }
 
-// A byte as a number.
-fn wide(byte: u8) -> usize
-    ensures { result ≤ 255 }
+// A digit of places, the length of the bytes in two bytes, and the bytes.
+#[derive(Clone, Copy)]
+struct Record<'a> {
+    places: u8,
+    bytes: &'a [u8],
+}
+
+// The record at the front, if it is whole, and what stands behind it.
+fn split(input: &[u8]) -> Option<(Record<'_>, &[u8])>
+    ensures { IfSome result (λ p. length p.1.now < length input.now) }
 {
-    byte as usize
-}
-
-// The record at `at`: a digit of places, the length of the bytes in two bytes, and the bytes. The next record starts at the answer.
-fn record_at(stdout: Stdout, input: &[u8], at: usize) -> usize {
-    let len = input.len();
-    if len < 3 {
-        return at;
-    }
-    if len - 3 < at {
-        return at;
-    }
-    let places = places_of(input[at]);
-    let size = 256 * wide(input[at + 1]) + wide(input[at + 2]);
-    let start = at + 3;
-    if len - start < size {
-        return at;
-    }
-    let end = start + size;
-    show(stdout, &input[start..end], places);
-    end
+    let [places, high, low, behind @ ..] = input else {
+        return None;
+    };
+    let size = u16::from_be_bytes([*high, *low]) as usize;
+    let (bytes, rest) = behind.split_at_checked(size)?;
+    Some((
+        Record {
+            places: *places,
+            bytes,
+        },
+        rest,
+    ))
 }
 
 // All records, one behind the other.
 fn records(stdout: Stdout, input: &[u8]) {
-    let mut at = 0;
-    let mut turns = input.len();
-    while 0 < turns {
-        let next = record_at(stdout, input, at);
-        if next == at {
-            return;
-        }
-        at = next;
-        turns -= 1;
+    let mut rest = input;
+    while let Some((one, behind)) = split(rest) {
+        show(stdout, one.bytes, places_of(one.places));
+        rest = behind;
     }
 }
 
@@ -126,25 +113,10 @@ fn room() -> [u8; 262144] {
     [0u8; 262144]
 }
 
-// Reads until the buffer is full or the input ends, and gives how many bytes were read; a read that fails ends the input.
-fn read_full(mut stdin: Stdin, buffer: &mut [u8]) -> usize
-    ensures { result ≤ length buffer.new }
-{
-    let mut done = 0;
-    while done < buffer.len() {
-        let count = stdin.read(&mut buffer[done..]).unwrap_or(0);
-        if count == 0 {
-            return done;
-        }
-        done += count;
-    }
-    done
-}
-
 // What standard input has.
 fn stored(stdin: Stdin, stdout: Stdout) {
     let mut buffer = room();
-    let n = read_full(stdin, &mut buffer);
+    let n = base_input::read_full(stdin, &mut buffer);
     records(stdout, &buffer[..n]);
 }
 
@@ -154,8 +126,8 @@ fn line() -> [u8; 65538] {
 
 // The answer to the first bytes of a long line.
 fn first(stdout: Stdout, bytes: &[u8], there: usize) {
-    if there <= bytes.len() {
-        show(stdout, &bytes[0..there], 1)
+    if let Some(front) = bytes.get(..there) {
+        show(stdout, front, 1)
     }
 }
 

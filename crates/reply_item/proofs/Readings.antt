@@ -5,7 +5,7 @@ use mathlib.Core.Bool.{Bool, true, false, ◌&&◌}
 use mathlib.Core.List.{List, [], ◌∷◌, ◌++◌}
 use lib.Dec.{T, eqb}
 use Rattle.base_key.specs.Bytes.{Bytes, bytes, same_bytes}
-use Rattle.reply_item.specs.Replies.{ReplyReading, waits, faulty, returns, whole, words_of, read_reply}
+use Rattle.reply_item.specs.Replies.{refusal_number, ReplyReading, waits, faulty, returns, whole, words_of, read_reply}
 use Rattle.reply_item.specs.Opens.{reply_item_opens}
 
 -- the reading of a text, with places for so many items
@@ -34,7 +34,7 @@ is_fault (whole is end) offset = false
 abbrev pub is_number : ReplyReading → ℕ → Bool
 is_number waits number = false
 is_number (faulty at) number = false
-is_number (returns k) number = eqb k number
+is_number (returns k) number = eqb (refusal_number k) number
 is_number (whole is end) number = false
 
 -- so many arrays of one item, each in the one before, and `inner` in the last

@@ -12,8 +12,10 @@ use Rattle.reply_item.specs.declared.Size.{Size}
 use Rattle.reply_item.specs.declared.Size.TheVariants.{Of, Absent, NoSize}
 use Rattle.reply_item.specs.declared.ItemLine.{ItemLine}
 use Rattle.reply_item.specs.declared.ItemLine.TheVariants.{Complete, BulkFollows, ItemsFollow, Wrong}
+use Rattle.reply_item.specs.declared.Refusal.{Refusal}
+use Rattle.reply_item.specs.declared.Refusal.TheVariants.{NoPlace, TooDeep}
 use Rattle.reply_item.specs.declared.ReplyRead.{ReplyRead}
-use Rattle.reply_item.specs.declared.ReplyRead.TheVariants.{Wait, Whole, Fault, Returned}
+use Rattle.reply_item.specs.declared.ReplyRead.TheVariants.{Wait, Whole, Fault, Refused}
 use Rattle.std.specs.Prelude.{Option, None, Some}
 use Rattle.std.specs.Prelude.{Err, Ok, Result}
 
@@ -58,11 +60,16 @@ item_line_of from (b ∷ text) =
     (cond (eqb b 36) (bulk_line (reply_size Bulk text))
     (cond (eqb b 42) (array_line (reply_size Multibulk text)) Wrong))))
 
--- READING. Not all bytes are there yet; a fault, with the offset of its item; a number that is returned; the items and the offset behind them.
+-- THE NUMBER that a refusal is for C
+unfoldable pub refusal_number : Refusal → ℕ
+refusal_number NoPlace = 11
+refusal_number TooDeep = 12
+
+-- READING. Not all bytes are there yet; a fault, with the offset of its item; a refusal, whose number is returned; the items and the offset behind them.
 pub data ReplyReading : Type 0 where
   waits : ReplyReading
   faulty : ℕ → ReplyReading
-  returns : ℕ → ReplyReading
+  returns : Refusal → ReplyReading
   whole : List Item → ℕ → ReplyReading
 
 -- items in front of those of a reading
@@ -72,9 +79,9 @@ with_items is (faulty at) = faulty at
 with_items is (returns k) = returns k
 with_items is (whole js end) = whole (is ++ js) end
 
--- 11 where the table has no place for item n
+-- refused, by 11, where the table has no place for item n
 unfoldable pub placed : ℕ → ℕ → ReplyReading → ReplyReading
-placed places n r = cond (ltb n places) r (returns 11)
+placed places n r = cond (ltb n places) r (returns NoPlace)
 
 -- the bytes of a bulk that `at` begins: `size` bytes from `start` on, where `s` stands, and then CR LF
 unfoldable pub body_of : ℕ → ℕ → ℕ → Bytes → ReplyReading
@@ -114,9 +121,9 @@ read_items one (suc count) n at = followed (one n at) (λ many end. read_items o
 unfoldable pub nested : (ℕ → ℕ → ReplyReading) → ℕ → Inner
 nested one places count n end = placed places n (with_items (ArrayOf count ∷ []) (read_items one count (suc n) end))
 
--- an array too deep
+-- an array too deep is refused, by 12
 unfoldable pub too_deep : Inner
-too_deep count n end = returns 12
+too_deep count n end = returns TooDeep
 
 -- item n, which begins at `at`; arrays may nest `depth` deep
 unfoldable pub read_item : ℕ → ℕ → Bytes → ℕ → ℕ → ReplyReading
@@ -135,7 +142,7 @@ read_reply places input = read_item most_depth places input 0 0
 unfoldable pub answer_of : ReplyReading → ReplyRead
 answer_of waits = Wait
 answer_of (faulty at) = Fault at
-answer_of (returns k) = Returned k
+answer_of (returns k) = Refused k
 answer_of (whole is used) = Whole used (length is)
 
 -- THE LENT TABLE. Four words for an item: its kind; the start and the length of its bytes; its number or count. Zero where it has none.

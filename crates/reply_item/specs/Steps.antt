@@ -6,14 +6,14 @@ use Rattle.reply_item.specs.declared.Item.{Item}
 use Rattle.reply_item.specs.declared.Item.TheVariants.{ArrayOf}
 use Rattle.reply_item.specs.declared.ItemLine.{ItemLine}
 use Rattle.reply_item.specs.declared.Step.{Step}
-use Rattle.reply_item.specs.declared.Step.TheVariants.{Wait, Fault, Returned, Next, Opens}
+use Rattle.reply_item.specs.declared.Step.TheVariants.{Wait, Fault, Refused, Next, Opens}
 use Rattle.reply_item.specs.Replies.{ReplyReading, waits, faulty, returns, whole, with_items, placed, body_of, Inner, item_of, item_by_line, too_deep}
 
 -- how a step goes on: an array's items are read by `items`, from its count, the place of its first item and the offset of that on
 abbrev pub goes_on : Inner → ℕ → Step → ReplyReading
 goes_on items n Wait = waits
 goes_on items n (Fault at) = faulty at
-goes_on items n (Returned k) = returns k
+goes_on items n (Refused k) = returns k
 goes_on items n (Next i end) = whole (i ∷ []) end
 goes_on items n (Opens count end) = with_items (ArrayOf count ∷ []) (items count (suc n) end)
 

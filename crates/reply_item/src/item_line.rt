@@ -32,6 +32,7 @@ fn read_array(text: &[u8]) -> ItemLine
 pub fn read_item_line(text: &[u8], from: usize) -> ItemLine
     ensures { result ≡ item_line_of from text.now }
 {
+    // A `match`: the input tells which runs, and no function may hand a closure out.
     match text {
         [b'+', rest @ ..] => ItemLine::Complete(Item::SimpleText(from, rest.len())),
         [b'-', rest @ ..] => ItemLine::Complete(Item::ErrorText(from, rest.len())),

@@ -3,19 +3,13 @@ ghost use Rattle.resp_spec.specs.Steps.{Inside};
 ghost use Rattle.resp_bulk.specs.Arguments.{LineFrom};
 ghost use Rattle.reply_item.specs.Steps.{StepIs, BodyIs, item_parsed, item_of_line, item_at};
 
-use crate::{Item, ItemLine, Step, item_line};
+use crate::{Item, ItemLine, Refusal, Step, item_line};
 use resp_bulk::Argument;
 use resp_spec::line;
 use resp_spec::line::Line;
 
-// The table has no place for an item.
-const NO_PLACE: u64 = 11;
-
 // The bytes of CR LF.
 const CRLF: usize = 2;
-
-// Arrays nest too deep.
-const TOO_DEEP: u64 = 12;
 
 // Reads the `size` bytes from `start` on of the bulk that begins at `at`, and the CR LF behind them.
 fn read_bulk_text(input: &[u8], at: usize, start: usize, size: usize) -> Step
@@ -29,55 +23,53 @@ fn read_bulk_text(input: &[u8], at: usize, start: usize, size: usize) -> Step
     }
 }
 
-// Goes on behind the line that begins item n at `at` and ends at `end`.
-fn step_parsed(
-    input: &[u8],
-    places: usize,
-    depth: usize,
-    n: usize,
-    at: usize,
-    end: usize,
-    parsed: ItemLine,
-) -> Step
-    requires { Inside input.now end }
-    ensures { StepIs (item_parsed places input.now n at end parsed) input.now places n depth result }
-{
-    match parsed {
-        ItemLine::Wrong => Step::Fault(at),
-        ItemLine::ItemsFollow(_) if depth == 0 => Step::Returned(TOO_DEEP),
-        _ if places <= n => Step::Returned(NO_PLACE),
-        ItemLine::Complete(item) => Step::Next(item, end),
-        ItemLine::BulkFollows(size) => read_bulk_text(input, at, end, size),
-        ItemLine::ItemsFollow(count) => Step::Opens(count, end),
+// Item n, which begins at `at` of the bytes; the table has `places` items' room, and arrays may nest `depth` deep.
+#[derive(Clone, Copy)]
+pub struct Spot<'a> {
+    pub input: &'a [u8],
+    pub places: usize,
+    pub depth: usize,
+    pub n: usize,
+    pub at: usize,
+    pub ghost inside: { Inside input.now at },
+}
+
+impl<'a> Spot<'a> {
+    // Goes on behind the item's line, which ends at `end`.
+    fn step_parsed(&self, end: usize, parsed: ItemLine) -> Step
+        requires { Inside self.now.input.now end }
+        ensures { StepIs (item_parsed self.now.places self.now.input.now self.now.n self.now.at end parsed) self.now.input.now self.now.places self.now.n self.now.depth result }
+    {
+        match parsed {
+            ItemLine::Wrong => Step::Fault(self.at),
+            ItemLine::ItemsFollow(_) if self.depth == 0 => Step::Refused(Refusal::TooDeep),
+            _ if self.places <= self.n => Step::Refused(Refusal::NoPlace),
+            ItemLine::Complete(item) => Step::Next(item, end),
+            ItemLine::BulkFollows(size) => read_bulk_text(self.input, self.at, end, size),
+            ItemLine::ItemsFollow(count) => Step::Opens(count, end),
+        }
     }
-}
 
-// Reads the item whose line, at `at`, has `len` bytes of text and `used` with its end.
-fn step_line(
-    input: &[u8],
-    places: usize,
-    depth: usize,
-    n: usize,
-    at: usize,
-    len: usize,
-    used: usize,
-) -> Step
-    requires { LineFrom input.now at len used }
-    ensures { StepIs (item_of_line places input.now n at len used) input.now places n depth result }
-{
-    let end = at + len;
-    let parsed = item_line::read_item_line(&input[at..end], at + 1);
-    step_parsed(input, places, depth, n, at, at + used, parsed)
-}
+    // Reads the item whose line has `len` bytes of text and `used` with its end.
+    fn step_line(&self, len: usize, used: usize) -> Step
+        requires { LineFrom self.now.input.now self.now.at len used }
+        ensures { StepIs (item_of_line self.now.places self.now.input.now self.now.n self.now.at len used) self.now.input.now self.now.places self.now.n self.now.depth result }
+    {
+        let start = self.at;
+        let end = start + len;
+        let parsed = item_line::read_item_line(&self.input[start..end], start + 1);
+        self.step_parsed(start + used, parsed)
+    }
 
-// Reads item n, which begins at `at`; arrays may nest `depth` deep.
-pub fn step(input: &[u8], places: usize, depth: usize, n: usize, at: usize) -> Step
-    requires { Inside input.now at }
-    ensures { StepIs (item_at places input.now n at) input.now places n depth result }
-{
-    match line::read_line(&input[at..]) {
-        Line::Text(len, used) => step_line(input, places, depth, n, at, len, used),
-        Line::Unfinished => Step::Wait,
-        Line::TooLong => Step::Fault(at),
+    // Reads the item.
+    pub fn step(&self) -> Step
+        ensures { StepIs (item_at self.now.places self.now.input.now self.now.n self.now.at) self.now.input.now self.now.places self.now.n self.now.depth result }
+    {
+        let start = self.at;
+        match line::read_line(&self.input[start..]) {
+            Line::Text(len, used) => self.step_line(len, used),
+            Line::Unfinished => Step::Wait,
+            Line::TooLong => Step::Fault(self.at),
+        }
     }
 }

@@ -6,7 +6,7 @@ use Rattle.std.specs.Prelude.{Option, None, Some}
 use Prim.Native.Nat.{ℕ, zero, suc, ◌+◌, ◌-◌, ◌*◌, ◌/◌, ◌^◌, ◌≤◌, ◌<◌}
 use native.Mathlib.Omega.{arith}
 use lib.Dec.{eqb, leb, ltb}
-use lib.ListN.{length, take, drop, replicate, length-append, length-take}
+use lib.ListN.{length, drop, replicate, length-append, length-take}
 use lib.Signed.{mag}
 use borrow.Author.Tests.{leb-true, ltb-true, ltb-false}
 use Rattle.base_key.specs.Bytes.{Bytes, bytes, same_bytes, part}
@@ -15,7 +15,7 @@ use Rattle.resp_spec.specs.declared.Header.{Header}
 use Rattle.resp_spec.specs.declared.Header.TheVariants.{Multibulk, Bulk}
 use Rattle.resp_spec.specs.declared.Fault.TheVariants.{NotText}
 use Rattle.resp_spec.specs.Reply.{Reply, Items, Simple, Error, Integer, BulkString, Nil, NilArray, Array, no_more, item, head, count_items, encode, depth, depth_of}
-use Rattle.resp_spec.specs.Request.{Line, line, unfinished, too_long, feed_at, without_cr, line_at, line_of, most_line, limit_of, span, header_within, header_of, begins_cr_lf}
+use Rattle.resp_spec.specs.Request.{Line, line, unfinished, too_long, line_of, most_line, limit_of, span, header_within, header_of, begins_cr_lf}
 use Rattle.resp_spec.specs.Utf8.{is_utf8}
 use Rattle.reply_item.specs.declared.Item.{Item}
 use Rattle.reply_item.specs.declared.Item.TheVariants.{SimpleText, ErrorText, WholeNumber, BulkText, NoBulk, NoArray, ArrayOf}
@@ -28,7 +28,7 @@ use Rattle.reply_item.specs.Replies.{word_of, counted_size, reply_size, number_l
 use Rattle.reply_reader.specs.Table.{ReplyIs}
 use Rattle.reply_reader.specs.Written.{Limited, AllLimited, longest_read, Told, items_of, items_of_all, items_told, integer_of, Rebuilt, reply, broken, replies, as_array, in_front, and_then, rebuild_all, rebuild_by, rebuild}
 use Rattle.reply_reader.proofs.Extending.{WhenWhole, of_wait, of_fault, of_number, of_whole, when_is, with_when, placed_when, followed_when, whole_inside}
-use Rattle.reply_reader.proofs.InOrder.{cr_shorter, whole_parts}
+use Rattle.reply_reader.proofs.InOrder.{LineFits, line_fits, whole_parts}
 use Rattle.reply_reader.proofs.Tables.{items_told_lem, items_many}
 use Rattle.std.specs.Prelude.{ℤ}
 use Rattle.std.specs.Prelude.{Err}
@@ -143,28 +143,6 @@ module _ (input : Bytes) where
       go false false false false true = array_says (reply_sized Multibulk text)
       go false false false false false = says_wrong
 
--- a line's text is at most as long as a line may be
-abbrev Short : Line → Type 0
-Short unfinished = Unit {0}
-Short too_long = Unit {0}
-Short (line text used) = length text ≤ most_line
-
-line_short : (s : Bytes) → Short (line_of s)
-unfolding line_of line_at
-line_short s = go (feed_at s)
-  where
-    ending : (b : Bool) → Short (cond b unfinished too_long)
-    ending true = tt
-    ending false = tt
-
-    found : (n : ℕ) (b : Bool) → leb n most_line ≡ b → Short (cond b (line (without_cr (take n s)) (suc n)) too_long)
-    found n true e = omega (arith, leb-true n most_line e, cr_shorter (take n s), length-take n s)
-    found n false e = tt
-
-    go : (o : Option ℕ) → Short (line_at o s)
-    go None = ending (leb (length s) most_line)
-    go (Some n) = found n (leb n most_line) refl
-
 -- THE ITEMS OF A READING tell a reply, whatever stands behind them; n items stand before them
 record Tells (d : ℕ) (input : Bytes) (places n : ℕ) (is : List Item) : Type 0 where
   told : Reply
@@ -259,11 +237,11 @@ module _ (d : ℕ) (f : Inner) (places : ℕ) (input : Bytes) (inner : (count n 
   item_of_tells end (says_bulk {size} h) = placed_when places n (body_tells d input places n at end size (drop end input) h)
   item_of_tells end (says_items {count} h) = inner count n end h
 
-  item_by_line_tells : (l : Line) → Short l → Telling d input places n (item_by_line f places input n at l)
+  item_by_line_tells : (l : Line) → LineFits l → Telling d input places n (item_by_line f places input n at l)
   unfolding item_by_line
   item_by_line_tells unfinished h = of_wait
   item_by_line_tells too_long h = of_fault
-  item_by_line_tells (line text used) h = item_of_tells (at + used) (line_says input (at + 1) text h)
+  item_by_line_tells (line text used) h = item_of_tells (at + used) (line_says input (at + 1) text h.short)
 
 module _ (d : ℕ) (input : Bytes) (places : ℕ) (each : (n at : ℕ) → Telling d input places n (read_item d places input n at)) where
   items_tell : (count n at : ℕ) → n ≤ places → TellingAll d input places n count (read_items (read_item d places input) count n at)
@@ -283,9 +261,9 @@ deep_tells input places count n end = of_number
 
 item_tells : (d places : ℕ) (input : Bytes) (n at : ℕ) → Telling d input places n (read_item d places input n at)
 unfolding read_item
-item_tells zero places input n at = item_by_line_tells 0 too_deep places input (λ count n end h. deep_tells input places count n end) n at (line_of (drop at input)) (line_short (drop at input))
+item_tells zero places input n at = item_by_line_tells 0 too_deep places input (λ count n end h. deep_tells input places count n end) n at (line_of (drop at input)) (line_fits (drop at input))
 item_tells (suc d) places input n at =
-    item_by_line_tells (suc d) (nested (read_item d places input) places) places input (nested_tells d input places (item_tells d places input)) n at (line_of (drop at input)) (line_short (drop at input))
+    item_by_line_tells (suc d) (nested (read_item d places input) places) places input (nested_tells d input places (item_tells d places input)) n at (line_of (drop at input)) (line_fits (drop at input))
 
 pub whole_tells : (places : ℕ) (input : Bytes) {is : List Item} {used : ℕ} → read_reply places input ≡ whole is used → Told places input used is
 unfolding read_reply

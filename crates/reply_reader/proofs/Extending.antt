@@ -17,6 +17,8 @@ use Rattle.reply_item.specs.declared.Item.{Item}
 use Rattle.reply_item.specs.declared.Item.TheVariants.{BulkText, ArrayOf}
 use Rattle.reply_item.specs.declared.ItemLine.{ItemLine}
 use Rattle.reply_item.specs.declared.ItemLine.TheVariants.{Complete, BulkFollows, ItemsFollow, Wrong}
+use Rattle.reply_item.specs.declared.Refusal.{Refusal}
+use Rattle.reply_item.specs.declared.Refusal.TheVariants.{NoPlace}
 use Rattle.reply_item.specs.Replies.{item_line_of, ReplyReading, waits, faulty, returns, whole, with_items, placed, body_of, Inner, item_of, item_by_line, followed, read_items, nested, too_deep, read_item, most_depth, read_reply}
 use Rattle.reply_reader.specs.Written.{Within, items_of}
 use Rattle.reply_reader.proofs.ReadBack.{reply_back}
@@ -119,7 +121,7 @@ placed_kept : (places n : ℕ) {r after : ReplyReading} → Kept r after → Kep
 unfolding placed
 placed_kept places n {r} {after} k = go (ltb n places)
   where
-    go : (b : Bool) → Kept (cond b r (returns 11)) (cond b after (returns 11))
+    go : (b : Bool) → Kept (cond b r (returns NoPlace)) (cond b after (returns NoPlace))
     go true = k
     go false = alike
 
@@ -201,7 +203,7 @@ whole_stays places s t e = stays places s t (λ never. let z : ◌≡◌ {A = �
 pub data WhenWhole (P : List Item → ℕ → Type 0) : ReplyReading → Type 0 where
   of_wait : WhenWhole P waits
   of_fault : {at : ℕ} → WhenWhole P (faulty at)
-  of_number : {k : ℕ} → WhenWhole P (returns k)
+  of_number : {k : Refusal} → WhenWhole P (returns k)
   of_whole : {is : List Item} {end : ℕ} → P is end → WhenWhole P (whole is end)
 
 pub when_is : {P : List Item → ℕ → Type 0} {is : List Item} {end : ℕ} → WhenWhole P (whole is end) → P is end
@@ -218,7 +220,7 @@ pub placed_when : {P : List Item → ℕ → Type 0} (places n : ℕ) {r : Reply
 unfolding placed
 placed_when {P} places n {r} f = go (ltb n places) refl
   where
-    go : (b : Bool) → ltb n places ≡ b → WhenWhole P (cond b r (returns 11))
+    go : (b : Bool) → ltb n places ≡ b → WhenWhole P (cond b r (returns NoPlace))
     go true e = f (ltb-true n places e)
     go false e = of_number
 

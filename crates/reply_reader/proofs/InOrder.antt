@@ -1,5 +1,5 @@
 -- The parts of the bytes that the items of a reply tell lie in the bytes used, one behind the other. Assumes nothing.
-use mathlib.Core.Path.{◌≡◌, subst}
+use mathlib.Core.Path.{◌≡◌, refl, subst}
 use mathlib.Core.Bool.{Bool, true, false, cond}
 use mathlib.Core.List.{List, [], ◌∷◌, ◌++◌}
 use Rattle.std.specs.Prelude.{Option, None, Some}
@@ -7,6 +7,7 @@ use Prim.Native.Nat.{ℕ, zero, suc, ◌+◌, ◌≤◌, ◌<◌}
 use native.Mathlib.Omega.{arith}
 use lib.Dec.{eqb, leb}
 use lib.ListN.{length, take, drop, length-take}
+use borrow.Author.Tests.{leb-true}
 use Rattle.base_key.specs.Bytes.{Bytes}
 use Rattle.base_number.specs.Number.{int_arg}
 use Rattle.resp_spec.specs.declared.Header.TheVariants.{Multibulk, Bulk}
@@ -45,8 +46,8 @@ parts_append (NoBulk ∷ is) js from mid to h k p q = parts_append is js from mi
 parts_append (NoArray ∷ is) js from mid to h k p q = parts_append is js from mid to h k p q
 parts_append (ArrayOf count ∷ is) js from mid to h k p q = parts_append is js from mid to h k p q
 
--- A LINE has its text in front of its LF
-pub cr_shorter : (s : Bytes) → length (without_cr s) ≤ length s
+-- A LINE has its text, which is at most as long as a line may be, in front of its LF
+cr_shorter : (s : Bytes) → length (without_cr s) ≤ length s
 unfolding without_cr
 cr_shorter [] = omega arith
 cr_shorter (b ∷ []) = go (eqb b 13)
@@ -56,26 +57,30 @@ cr_shorter (b ∷ []) = go (eqb b 13)
     go false = omega arith
 cr_shorter (b ∷ c ∷ s) = omega (arith, cr_shorter (c ∷ s))
 
-abbrev Holds : Line → Type 0
-Holds unfinished = Unit {0}
-Holds too_long = Unit {0}
-Holds (line text used) = length text < used
+pub record TextFits (text : Bytes) (used : ℕ) : Type 0 where
+  pub inside : length text < used
+  pub short : length text ≤ most_line
 
-line_holds : (s : Bytes) → Holds (line_of s)
+abbrev pub LineFits : Line → Type 0
+LineFits unfinished = Unit {0}
+LineFits too_long = Unit {0}
+LineFits (line text used) = TextFits text used
+
+pub line_fits : (s : Bytes) → LineFits (line_of s)
 unfolding line_of line_at
-line_holds s = go (feed_at s)
+line_fits s = go (feed_at s)
   where
-    ending : (b : Bool) → Holds (cond b unfinished too_long)
+    ending : (b : Bool) → LineFits (cond b unfinished too_long)
     ending true = tt
     ending false = tt
 
-    found : (n : ℕ) (b : Bool) → Holds (cond b (line (without_cr (take n s)) (suc n)) too_long)
-    found n true = omega (arith, cr_shorter (take n s), length-take n s)
-    found n false = tt
+    found : (n : ℕ) (b : Bool) → leb n most_line ≡ b → LineFits (cond b (line (without_cr (take n s)) (suc n)) too_long)
+    found n true e = record { inside = omega (arith, cr_shorter (take n s), length-take n s); short = omega (arith, leb-true n most_line e, cr_shorter (take n s), length-take n s) }
+    found n false e = tt
 
-    go : (o : Option ℕ) → Holds (line_at o s)
+    go : (o : Option ℕ) → LineFits (line_at o s)
     go None = ending (leb (length s) most_line)
-    go (Some n) = found n (leb n most_line)
+    go (Some n) = found n (leb n most_line) refl
 
 -- the part of an item that is complete with its line
 abbrev LinePart : ℕ → ℕ → ItemLine → Type 0
@@ -147,7 +152,7 @@ module _ (f : Inner) (places : ℕ) (input : Bytes) (inner : (count n end : ℕ)
   item_of_ordered end h (BulkFollows size) p = placed_when places n (λ room. body_ordered at end size (drop end input) h)
   item_of_ordered end h (ItemsFollow count) p = ordered_before at (omega arith) (inner count n end)
 
-  item_by_line_ordered : (l : Line) → Holds l → Ordered at (item_by_line f places input n at l)
+  item_by_line_ordered : (l : Line) → LineFits l → Ordered at (item_by_line f places input n at l)
   unfolding item_by_line
   item_by_line_ordered unfinished h = of_wait
   item_by_line_ordered too_long h = of_fault
@@ -171,9 +176,9 @@ deep_ordered count n end = of_number
 
 item_ordered : (depth places : ℕ) (input : Bytes) (n at : ℕ) → Ordered at (read_item depth places input n at)
 unfolding read_item
-item_ordered zero places input n at = item_by_line_ordered too_deep places input deep_ordered n at (line_of (drop at input)) (line_holds (drop at input))
+item_ordered zero places input n at = item_by_line_ordered too_deep places input deep_ordered n at (line_of (drop at input)) (line_fits (drop at input))
 item_ordered (suc depth) places input n at =
-    item_by_line_ordered (nested (read_item depth places input) places) places input (nested_ordered (read_item depth places input) (item_ordered depth places input) places) n at (line_of (drop at input)) (line_holds (drop at input))
+    item_by_line_ordered (nested (read_item depth places input) places) places input (nested_ordered (read_item depth places input) (item_ordered depth places input) places) n at (line_of (drop at input)) (line_fits (drop at input))
 
 -- THE THEOREM: the parts of a whole reply lie in the bytes used, one behind the other
 pub whole_parts : (places : ℕ) (s : Bytes) {is : List Item} {used : ℕ} → read_reply places s ≡ whole is used → PartsIn 0 used is

@@ -13,14 +13,15 @@ use Rattle.reply_item.specs.declared.Item.{Item}
 use Rattle.reply_item.specs.declared.Item.TheVariants.{ArrayOf}
 use Rattle.reply_item.specs.declared.ItemLine.{ItemLine}
 use Rattle.reply_item.specs.declared.ItemLine.TheVariants.{Complete, BulkFollows, ItemsFollow, Wrong}
+use Rattle.reply_item.specs.declared.Refusal.TheVariants.{NoPlace}
 use Rattle.reply_item.specs.Replies.{item_line_of, ReplyReading, waits, faulty, returns, whole, with_items, placed, body_of, Inner, item_of, item_by_line, followed, read_items, nested, too_deep, read_item, most_depth, read_reply}
 
 -- A READING, with more places: it is 11, or it is the same
 data Roomed : ReplyReading → ReplyReading → Type 0 where
-  full : {after : ReplyReading} → Roomed (returns 11) after
+  full : {after : ReplyReading} → Roomed (returns NoPlace) after
   alike : {r : ReplyReading} → Roomed r r
 
-roomed_same : {r after : ReplyReading} → Roomed r after → (r ≡ returns 11 → ⊥) → after ≡ r
+roomed_same : {r after : ReplyReading} → Roomed r after → (r ≡ returns NoPlace → ⊥) → after ≡ r
 roomed_same full never = absurd (never refl)
 roomed_same alike never = refl
 
@@ -33,7 +34,7 @@ placed_roomed : (places more n : ℕ) {r after : ReplyReading} → Roomed r afte
 unfolding placed
 placed_roomed places more n {r} {after} k = go (ltb n places) refl
   where
-    go : (b : Bool) → ltb n places ≡ b → Roomed (cond b r (returns 11)) (cond (ltb n (places + more)) after (returns 11))
+    go : (b : Bool) → ltb n places ≡ b → Roomed (cond b r (returns NoPlace)) (cond (ltb n (places + more)) after (returns NoPlace))
     go false e = full
     go true e = let less : n < places = ltb-true n places e in let room : n < places + more = omega arith in rw (lt-ltb n (places + more) room) k
 
@@ -77,6 +78,6 @@ item_roomed (suc depth) places more input n at =
     item_by_line_roomed (nested (read_item depth places input) places) (nested (read_item depth (places + more) input) (places + more)) (nested_roomed (read_item depth places input) (read_item depth (places + more) input) (item_roomed depth places more input) places more) places more input n at (line_of (drop at input))
 
 -- THE THEOREM: with a longer table an answer other than 11 stays the same
-pub longer_table : (places more : ℕ) (s : Bytes) → (read_reply places s ≡ returns 11 → ⊥) → read_reply (places + more) s ≡ read_reply places s
+pub longer_table : (places more : ℕ) (s : Bytes) → (read_reply places s ≡ returns NoPlace → ⊥) → read_reply (places + more) s ≡ read_reply places s
 unfolding read_reply
 longer_table places more s never = roomed_same (item_roomed most_depth places more s 0 0) never

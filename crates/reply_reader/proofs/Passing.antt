@@ -11,9 +11,10 @@ use Rattle.base_writing.proofs.Lent.{rest, with_rest, rest_is, with_rest_is}
 use Rattle.reply_item.specs.declared.Item.{Item}
 use Rattle.reply_item.specs.declared.Item.TheVariants.{ArrayOf}
 use Rattle.reply_item.specs.declared.Step.{Step}
-use Rattle.reply_item.specs.declared.Step.TheVariants.{Wait as StepWait, Fault as StepFault, Returned as StepReturned, Next, Opens}
+use Rattle.reply_item.specs.declared.Step.TheVariants.{Wait as StepWait, Fault as StepFault, Refused as StepRefused, Next, Opens}
+use Rattle.reply_item.specs.declared.Refusal.{Refusal}
 use Rattle.reply_item.specs.declared.ReplyRead.{ReplyRead}
-use Rattle.reply_item.specs.declared.ReplyRead.TheVariants.{Wait, Whole, Fault, Returned}
+use Rattle.reply_item.specs.declared.ReplyRead.TheVariants.{Wait, Whole, Fault, Refused}
 use Rattle.reply_item.specs.Replies.{ReplyReading, waits, faulty, returns, whole, with_items, Inner, followed, read_items, nested, read_item, most_depth, read_reply, answer_of, table_of, words_of}
 use Rattle.reply_item.specs.Steps.{goes_on, level, StepIs, item_at}
 use Rattle.reply_reader.specs.Table.{PlaceIn, ItemsIn, Standing, answer_from, item_count, ItemsAre, ReplyIs}
@@ -102,7 +103,7 @@ module _ {input entry table : List ℕ} {depth count first from i n at : ℕ} (g
     unfolding with_items followed
     passed_fault {offset} e = none_are (faulty offset) (next ∙ rw e refl) refl (λ is end w. let z : ◌≡◌ {A = ℕ} 0 1 = cc in omega arith)
 
-    pub passed_number : {k : ℕ} → s ≡ StepReturned k → ItemsAre (read_items (read_item depth (length entry / 4) input) count first from) input first entry (Returned k) table
+    pub passed_number : {k : Refusal} → s ≡ StepRefused k → ItemsAre (read_items (read_item depth (length entry / 4) input) count first from) input first entry (Refused k) table
     unfolding with_items followed
     passed_number {k} e = none_are (returns k) (next ∙ rw e refl) refl (λ is end w. let z : ◌≡◌ {A = ℕ} 0 1 = cc in omega arith)
 

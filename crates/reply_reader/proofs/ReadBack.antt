@@ -9,7 +9,7 @@ use lib.IntN.{ℤ}
 use lib.ListN.{length, drop, length-append, length-map}
 use lib.Seq.{drop_at, drop-drop}
 use lib.Signed.{mag}
-use borrow.Author.Tests.{le-leb, lt-ltb}
+use borrow.Author.Tests.{le-leb}
 use Rattle.base_key.specs.Bytes.{Bytes, same_bytes, ◌and◌}
 use Rattle.base_number.specs.Decimal.{digits, decimal}
 use Rattle.base_number.proofs.Decimals.{digits_few, decimal_few}
@@ -21,7 +21,8 @@ use Rattle.reply_item.specs.declared.Item.{Item}
 use Rattle.reply_item.specs.declared.Item.TheVariants.{SimpleText, ErrorText, WholeNumber, BulkText, NoBulk, NoArray, ArrayOf}
 use Rattle.reply_item.specs.declared.ItemLine.{ItemLine}
 use Rattle.reply_item.specs.declared.ItemLine.TheVariants.{Complete, BulkFollows, ItemsFollow}
-use Rattle.reply_item.specs.Replies.{word_of, number_line, bulk_line, array_line, item_line_of, ReplyReading, whole, with_items, placed, body_of, Inner, item_of, item_by_line, followed, read_items, nested, too_deep, read_item, read_reply, most_depth, reply_size}
+use Rattle.reply_item.specs.Replies.{word_of, number_line, bulk_line, array_line, item_line_of, ReplyReading, whole, with_items, body_of, Inner, item_of, item_by_line, followed, read_items, nested, too_deep, read_item, read_reply, most_depth, reply_size}
+use Rattle.reply_item.proofs.Standing.{has_place}
 use Rattle.reply_reader.specs.Written.{Limited, AllLimited, longest_written, Within, items_of, items_of_all}
 use Rattle.reply_reader.proofs.Texts.{Free, free_none, free_more, line_of_lem, free_clean, digital_digits, free_digital, free_decimal, size_back}
 
@@ -35,10 +36,6 @@ line_item inner places input n at b text rest kind free h is =
     ap (λ (s : Bytes). item_by_line inner places input n at (line_of s)) is
     ∙ ap (item_by_line inner places input n at) (line_of_lem (b ∷ text) rest (free_more kind free) near)
     ∙ ap (λ (k : ℕ). item_of inner places input n at (at + k) (item_line_of (at + 1) (b ∷ text))) used
-
-has_place : {places n : ℕ} (r : ReplyReading) → n < places → placed places n r ≡ r
-unfolding placed
-has_place {places} {n} r h = rw (lt-ltb n places h) refl
 
 -- an item that is complete with its line
 complete_item : (inner : Inner) (places : ℕ) (input : Bytes) (n at b : ℕ) (text rest : Bytes) (i : Item) → (b ≡ 10 → ⊥) → Free text → length text + 2 ≤ most_line → drop at input ≡ b ∷ text ++ 13 ∷ 10 ∷ rest → n < places → item_line_of (at + 1) (b ∷ text) ≡ Complete i → item_by_line inner places input n at (line_of (drop at input)) ≡ whole (i ∷ []) (at + (length text + 3))

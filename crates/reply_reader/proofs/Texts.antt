@@ -18,15 +18,12 @@ use Rattle.resp_spec.specs.declared.Header.{Header}
 use Rattle.resp_spec.specs.Utf8.{between, leads, decode_byte, utf8_from, is_utf8}
 use Rattle.resp_spec.specs.Reply.{clean}
 use Rattle.resp_spec.specs.Request.{most_line, line, line_of, line_at, feed_at, without_cr, limit_of, header_within, header_of}
+use Rattle.resp_spec.proofs.Lines.{feed_later}
 use Rattle.reply_item.specs.declared.Size.TheVariants.{Of}
 use Rattle.reply_item.specs.Replies.{counted_size, reply_size}
 use Rattle.std.specs.Prelude.{Ok}
 
 -- LINES
-feed_cons : (b : ℕ) (s : Bytes) → (b ≡ 10 → ⊥) → feed_at (b ∷ s) ≡ option_map suc (feed_at s)
-unfolding feed_at
-feed_cons b s e = rw (ne_eqb b 10 e, feed_at) refl
-
 -- a text without LF
 pub data Free : Bytes → Type 0 where
   free_none : Free []
@@ -39,7 +36,7 @@ free_append (free_more e f) g = free_more e (free_append f g)
 feed_behind : {s : Bytes} (rest : Bytes) → Free s → feed_at (s ++ 10 ∷ rest) ≡ Some (length s)
 unfolding feed_at
 feed_behind rest free_none = refl
-feed_behind rest (free_more {b} {s} e f) = feed_cons b (s ++ 10 ∷ rest) e ∙ ap (option_map suc) (feed_behind rest f)
+feed_behind rest (free_more {b} {s} e f) = feed_later b (s ++ 10 ∷ rest) e ∙ ap (option_map suc) (feed_behind rest f)
 
 cr_dropped : (s : Bytes) → without_cr (s ++ 13 ∷ []) ≡ s
 unfolding without_cr

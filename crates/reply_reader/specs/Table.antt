@@ -3,7 +3,7 @@ use Rattle.std.specs.Prelude.{◌≡◌, List, ◌++◌, ◌⊎◌, ℕ, ◌+◌
 use Rattle.base_key.specs.Bytes.{Bytes}
 use Rattle.reply_item.specs.declared.Item.{Item}
 use Rattle.reply_item.specs.declared.ReplyRead.{ReplyRead}
-use Rattle.reply_item.specs.declared.ReplyRead.TheVariants.{Wait, Whole, Fault, Returned}
+use Rattle.reply_item.specs.declared.ReplyRead.TheVariants.{Wait, Whole, Fault, Refused}
 use Rattle.reply_item.specs.Replies.{ReplyReading, waits, faulty, returns, whole, words_of, answer_of, table_of, read_reply}
 
 -- the table has a place for item n
@@ -24,14 +24,14 @@ pub record Standing (is : List Item) (n : ℕ) (entry exit : List ℕ) : Type 0 
 abbrev pub answer_from : ℕ → ReplyReading → ReplyRead
 answer_from n waits = Wait
 answer_from n (faulty at) = Fault at
-answer_from n (returns k) = Returned k
+answer_from n (returns k) = Refused k
 answer_from n (whole is end) = Whole end (n + length is)
 
 -- the count of items that stand in the table with an answer
 unfoldable pub item_count : ReplyRead → ℕ
 item_count Wait = 0
 item_count (Fault at) = 0
-item_count (Returned k) = 0
+item_count (Refused k) = 0
 item_count (Whole end n) = n
 
 -- the items of a reading that is whole

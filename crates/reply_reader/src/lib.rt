@@ -1,4 +1,4 @@
-// A reply, read: wait, one whole reply with the bytes it uses, a fault with the offset of its item, or a number.
+// A reply, read: wait, one whole reply with the bytes it uses, a fault with the offset of its item, or a refusal.
 #![tactic(auto)]
 
 pub mod table;
@@ -7,7 +7,8 @@ ghost use Rattle.std.specs.Prelude.{◌≡◌, ◌/◌, length};
 ghost use Rattle.reply_item.specs.Replies.{read_item, read_items};
 ghost use Rattle.reply_reader.specs.Table.{ItemsIn, ItemsAre, ReplyIs, item_count};
 
-use reply_item::{Item, ReplyRead, Step, next};
+use reply_item::next::Spot;
+use reply_item::{Item, ReplyRead, Step};
 
 // How deep arrays may nest.
 const MOST_DEPTH: usize = 8;
@@ -29,10 +30,17 @@ fn read_items(
     let mut n = first;
     let mut at = from;
     for _ in 0..count {
-        match next::step(input, places, depth, n, at) {
+        let spot = Spot {
+            input,
+            places,
+            depth,
+            n,
+            at,
+        };
+        match spot.step() {
             Step::Wait => return ReplyRead::Wait,
             Step::Fault(offset) => return ReplyRead::Fault(offset),
-            Step::Returned(number) => return ReplyRead::Returned(number),
+            Step::Refused(refusal) => return ReplyRead::Refused(refusal),
             Step::Next(item, end) => {
                 table::put_item(items, n, item);
                 n += 1;

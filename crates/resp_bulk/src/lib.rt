@@ -15,7 +15,8 @@ pub enum Argument {
     Part(usize, usize),
 }
 
-// Reads the n bytes of an argument, from `at` on, and the CR LF behind them.
+// Reads the n bytes of an argument, from `at` on, and the CR LF behind them. `Inside` is about the place that is given, another at each call: no struct
+// keeps it.
 pub fn read_body(input: &[u8], at: usize, n: usize) -> Argument
     requires { Inside input.now at }
     ensures { ArgumentIs (argument_of_size at n input.now) input.now result }

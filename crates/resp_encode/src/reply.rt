@@ -49,6 +49,7 @@ pub fn put_bulk_digits(out: &mut [u8], n: u64) -> Option<usize>
 }
 
 // No array.
+#[tactic(auto, unfolding(resp_spec::specs::Reply::encode))]
 pub fn put_nil_array(out: &mut [u8]) -> Option<usize>
     ensures { Puts (encode NilArray) out.old result out.new }
 {

@@ -11,7 +11,7 @@ use Rattle.resp_spec.specs.declared.Span.{Span}
 use Rattle.resp_spec.specs.declared.Header.{Header}
 use Rattle.resp_spec.specs.declared.Header.TheVariants.{Multibulk, Bulk}
 use Rattle.resp_spec.specs.declared.Fault.{Fault}
-use Rattle.resp_spec.specs.declared.Fault.TheVariants.{LineTooLong, NotText, NotNumber, OverLimit, NoDollar, NoLineEnd}
+use Rattle.resp_spec.specs.declared.Fault.TheVariants.{NotText, NotNumber, OverLimit, NoDollar}
 use Rattle.resp_spec.specs.Utf8.{lossy}
 use Rattle.resp_spec.specs.Request.{spanned, limit_of, header_name, fault_text}
 use Rattle.resp_spec.specs.Reply.{clean, crlf, err, encode}
@@ -64,12 +64,3 @@ module _ {l0 l1 l2 l3 : Bytes} {u1 u2 u3 : Option ℕ} (s : Bytes) where
       → Puts (encode (err (bytes "Protocol error: " ++ fault_text s f))) l0 u3 l3
   unfolding encode
   write_reply f a b c = then_puts (then_puts a b) c
-
--- texts that are fixed
-pub write_fixed_long : {entry exit : Bytes} {put after : Option ℕ} (s : Bytes) {f : Fault} → f ≡ LineTooLong → Adds (bytes "line too long") put entry after exit → Adds (map clean (fault_text s f)) put entry after exit
-unfolding fault_text
-write_fixed_long s e a = rw e a
-
-pub write_fixed_end : {entry exit : Bytes} {put after : Option ℕ} (s : Bytes) {f : Fault} → f ≡ NoLineEnd → Adds (bytes "bulk string not followed by CRLF") put entry after exit → Adds (map clean (fault_text s f)) put entry after exit
-unfolding fault_text
-write_fixed_end s e a = rw e a

@@ -87,9 +87,11 @@ fn then_no_dollar(out: &mut [u8], put: Option<usize>, input: &[u8], part: Span) 
 }
 
 // Writes the text of a fault behind what was put.
+#[tactic(auto, unfolding(resp_spec::specs::Request::fault_text))]
 fn then_fault(out: &mut [u8], put: Option<usize>, input: &[u8], fault: Fault) -> Option<usize>
     ensures { Adds (map clean (fault_text input.now fault)) put out.old result out.new }
 {
+    // A `match`: the input tells which runs, and no function may hand a closure out.
     match fault {
         Fault::LineTooLong => base_writing::then_bytes(out, put, b"line too long"),
         Fault::NotText(kind) => then_not_text(out, put, input, kind),

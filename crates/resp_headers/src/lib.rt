@@ -19,22 +19,22 @@ pub fn limit(kind: Header) -> u64
 }
 
 // Reads a header's length from a text that starts at `start` in the request.
+#[tactic(auto, unfolding(resp_spec::specs::Request::header_within))]
 fn read_length(kind: Header, start: usize, text: &[u8]) -> Result<u64, Fault>
     ensures { result ≡ header_within kind (span start (length text.now)) (length_of text.now) }
 {
-    let len = text.len();
     match header::header_length(text) {
-        Some(n) => {
-            if n <= limit(kind) {
-                return Ok(n);
-            }
-            Err(Fault::OverLimit(kind, n))
+        Some(n) if n <= limit(kind) => Ok(n),
+        Some(n) => Err(Fault::OverLimit(kind, n)),
+        None => {
+            let len = text.len();
+            Err(Fault::NotNumber(kind, Span { start, len }))
         }
-        None => Err(Fault::NotNumber(kind, Span { start, len })),
     }
 }
 
 // Reads a header, whose text starts at `start` in the request.
+#[tactic(auto, unfolding(resp_spec::specs::Request::header_of))]
 pub fn read_header(kind: Header, start: usize, text: &[u8]) -> Result<u64, Fault>
     ensures { result ≡ header_of kind start text.now }
 {

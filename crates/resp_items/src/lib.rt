@@ -25,6 +25,7 @@ pub fn then_bulk_digits(out: &mut [u8], put: Option<usize>, n: u64) -> Option<us
     base_writing::then(out, put, |rest| reply::put_bulk_digits(rest, n))
 }
 
+#[tactic(auto, unfolding(resp_spec::specs::Reply::encode))]
 pub fn then_nil(out: &mut [u8], put: Option<usize>) -> Option<usize>
     ensures { Adds (encode Nil) put out.old result out.new }
 {

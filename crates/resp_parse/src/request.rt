@@ -8,7 +8,7 @@ use resp_bulk::Argument;
 use resp_spec::line::Line;
 use resp_spec::{Fault, Header, Read, inline, line, table};
 
-// Reads `count` arguments, from `from` on.
+// Reads `count` arguments, from `from` on. `places` is written here, so it is no part of a `Request` yet.
 fn read_arguments(input: &[u8], places: &mut [u64], count: usize, from: usize) -> Read
     requires { ArgumentsIn input.now places.old count from }
     ensures { ReadIs (read_arguments count from (drop from input.now)) result places.new }

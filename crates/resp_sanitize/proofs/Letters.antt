@@ -73,8 +73,8 @@ module _ {letters : Letters} {text entry out : Bytes} {at : ℕ} {put : Option �
   shown_all h = same_text (g.left ∙ rw (drop_of_length-le text {i = at} h) (append-nil g.written)) g.puts
 
   -- what is written so far does not fit
-  pub shown_full : put ≡ None → Puts (map (shown_as letters) (lossy text)) entry None out
-  shown_full told = full_longer (map (shown_as letters) (lossy_from between (drop at text))) g.left g.puts told
+  pub shown_full : {after : Option ℕ} → put ≡ None → after ≡ None → Puts (map (shown_as letters) (lossy text)) entry after out
+  shown_full told is = rw is (full_longer (map (shown_as letters) (lossy_from between (drop at text))) g.left g.puts told)
 
   module _ (h : at < length text) {p : Result ℕ ℕ} (is : p ≡ piece_of (rest at text)) where
     shown_more : {exit : Bytes} {after : Option ℕ} (more : Bytes) → more ≡ map (shown_as letters) (shown p (drop at text)) → Adds more put out after exit → Shown letters text (at + size p) entry after exit

@@ -9,7 +9,7 @@ ghost use Rattle.resp_spec.specs.Utf8.{lossy, replacement};
 
 use resp_spec::Letters;
 
-// A space for CR and LF.
+// A space for CR and LF, which no method of the library gives.
 fn clean_byte(byte: u8) -> u8
     ensures { result ≡ clean byte }
 {
@@ -19,28 +19,22 @@ fn clean_byte(byte: u8) -> u8
     }
 }
 
-// A capital for a small letter.
+// A capital for a small letter: the library's method, which the definitions call `upper`.
 pub fn upper_byte(byte: u8) -> u8
     ensures { result ≡ upper byte }
 {
     byte.to_ascii_uppercase()
 }
 
-// A small letter for a capital.
-fn lower_byte(byte: u8) -> u8
-    ensures { result ≡ lower byte }
-{
-    byte.to_ascii_lowercase()
-}
-
 // A byte as it is shown.
 fn shown_byte(byte: u8, letters: Letters) -> u8
     ensures { result ≡ shown_as letters byte }
 {
+    // An enum and no closure: the contracts say by it how the text is shown.
     match letters {
         Letters::AsSent => clean_byte(byte),
         Letters::Capitals => clean_byte(upper_byte(byte)),
-        Letters::Small => clean_byte(lower_byte(byte)),
+        Letters::Small => clean_byte(byte.to_ascii_lowercase()),
     }
 }
 
@@ -67,9 +61,7 @@ pub fn then_clean(
 ) -> Option<usize>
     ensures { Adds (map (shown_as letters) text.now) put out.old result out.new }
 {
-    let at = base_writing::place(put, out.len());
-    let next = put_clean(&mut out[at..], text, letters);
-    base_writing::joined(out, put, next)
+    base_writing::then(out, put, |rest| put_clean(rest, text, letters))
 }
 
 // Writes U+FFFD behind what was put.
@@ -86,9 +78,7 @@ pub fn put_clean_lossy(out: &mut [u8], text: &[u8], letters: Letters) -> Option<
     let mut put = Some(0);
     let mut at = 0;
     while at < text.len() {
-        let Some(_) = put else {
-            return None;
-        };
+        put?;
         match resp_utf8::piece_at(&text[at..]) {
             Ok(n) => {
                 put = then_clean(out, put, &text[at..at + n], letters);
@@ -112,7 +102,5 @@ pub fn then_clean_lossy(
 ) -> Option<usize>
     ensures { Adds (map (shown_as letters) (lossy text.now)) put out.old result out.new }
 {
-    let at = base_writing::place(put, out.len());
-    let next = put_clean_lossy(&mut out[at..], text, letters);
-    base_writing::joined(out, put, next)
+    base_writing::then(out, put, |rest| put_clean_lossy(rest, text, letters))
 }

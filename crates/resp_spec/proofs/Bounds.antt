@@ -53,7 +53,7 @@ feed_in (b ∷ s) = go (eqb b 10) refl (feed_in s)
     go true e h = rw (feed_first b s (eqb-true b 10 e)) (omega arith)
     go false e h = rw (feed_later b s (eqb-false b 10 e)) (feed_next (length s) (feed_at s) h)
 
-without_cr_length : (s : Bytes) → length (without_cr s) ≤ length s
+pub without_cr_length : (s : Bytes) → length (without_cr s) ≤ length s
 unfolding without_cr
 without_cr_length [] = omega arith
 without_cr_length (b ∷ []) = go (eqb b 13)

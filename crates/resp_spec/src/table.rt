@@ -3,6 +3,7 @@ ghost use Rattle.std.specs.Prelude.{◌≡◌};
 ghost use Rattle.resp_spec.specs.Steps.{PlaceIn, with_place};
 
 // Writes the part of argument i.
+#[tactic(auto, unfolding(crate::specs::Steps::with_place))]
 pub fn put_place(places: &mut [u64], i: usize, start: usize, len: usize)
     requires { PlaceIn places.old i }
     ensures { places.new ≡ with_place i start len places.old }

@@ -8,99 +8,19 @@ use native.Mathlib.Omega.{arith}
 use lib.ListN.{length, take, drop, get_or, length-append, length-drop, drop_of_length-le}
 use lib.Seq.{drop-cons, drop-drop, take-suc, append_snoc, take_at, drop_at, drop-append_seam}
 use lib.Dec.{leb, eqb}
-use borrow.Author.Tests.{le-leb, lt-leb, eq-eqb, ne_eqb}
+use borrow.Author.Tests.{le-leb, lt-leb}
 use Rattle.base_key.specs.Bytes.{Bytes}
 use Rattle.base_writing.proofs.Lent.{rest, rest_is}
-use Rattle.resp_utf8.specs.declared.Lead.{Lead}
-use Rattle.resp_utf8.specs.declared.Lead.TheVariants.{Single, Several, Ill}
 use Rattle.resp_spec.specs.Utf8.{Decoded, byte_in, between, within, replacement, leads, continues, breaks, decode_byte, lossy_from, utf8_from, is_utf8}
-use Rattle.resp_utf8.specs.Pieces.{lead_of, piece_from, piece_by, piece_of, Begun, NotEmpty}
+use Rattle.resp_utf8.specs.Pieces.{piece_from, piece_by, piece_of, Begun, NotEmpty}
 use Rattle.std.specs.Prelude.{Result, Ok, Err}
 
--- WHAT A FIRST BYTE SAYS, by the tests of the code
-module _ (b : ℕ) where
-  pub lead_single : b < 128 → lead_of b Single ≡ leads b
-  unfolding lead_of leads
-  lead_single h = let t : b ≤ 127 = omega arith in rw (le-leb b 127 t) refl
-
-  module _ (many : 128 ≤ b) where
-    past_single : 127 < b
-    past_single = omega arith
-
-    pub lead_low : b < 194 → lead_of b Ill ≡ leads b
-    unfolding lead_of leads
-    lead_low h = rw (lt-leb b 127 past_single, lt-leb 194 b h, ne_eqb b 224 (λ e. omega arith), ne_eqb b 237 (λ e. omega arith), lt-leb 225 b (omega arith), ne_eqb b 240 (λ e. omega arith), lt-leb 241 b (omega arith), ne_eqb b 244 (λ e. omega arith)) refl
-
-    module _ (first : 194 ≤ b) where
-      pub lead_two : b < 224 → lead_of b (Several 0 128 191) ≡ leads b
-      unfolding lead_of leads
-      lead_two h = rw (lt-leb b 127 past_single, le-leb 194 b first, le-leb b 223 (omega arith)) refl
-
-      module _ (three : 224 ≤ b) where
-        past_two : 223 < b
-        past_two = omega arith
-
-        pub lead_224 : b ≡ 224 → lead_of b (Several 1 160 191) ≡ leads b
-        unfolding lead_of leads
-        lead_224 e = rw (lt-leb b 127 past_single, le-leb 194 b first, lt-leb b 223 past_two, eq-eqb b 224 e) refl
-
-        module _ (n224 : b ≡ 224 → ⊥) where
-          pub lead_237 : b ≡ 237 → lead_of b (Several 1 128 159) ≡ leads b
-          unfolding lead_of leads
-          lead_237 e = rw (lt-leb b 127 past_single, le-leb 194 b first, lt-leb b 223 past_two, ne_eqb b 224 n224, eq-eqb b 237 e) refl
-
-          module _ (n237 : b ≡ 237 → ⊥) where
-            pub lead_three : b < 240 → lead_of b (Several 1 128 191) ≡ leads b
-            unfolding lead_of leads
-            lead_three h = rw (lt-leb b 127 past_single, le-leb 194 b first, lt-leb b 223 past_two, ne_eqb b 224 n224, ne_eqb b 237 n237, le-leb 225 b (omega arith), le-leb b 239 (omega arith)) refl
-
-            module _ (four : 240 ≤ b) where
-              from_225 : 225 ≤ b
-              from_225 = omega arith
-
-              past_three : 239 < b
-              past_three = omega arith
-
-              pub lead_240 : b ≡ 240 → lead_of b (Several 2 144 191) ≡ leads b
-              unfolding lead_of leads
-              lead_240 e = rw (lt-leb b 127 past_single, le-leb 194 b first, lt-leb b 223 past_two, ne_eqb b 224 n224, ne_eqb b 237 n237, le-leb 225 b from_225, lt-leb b 239 past_three, eq-eqb b 240 e) refl
-
-              module _ (n240 : b ≡ 240 → ⊥) where
-                pub lead_four : b < 244 → lead_of b (Several 2 128 191) ≡ leads b
-                unfolding lead_of leads
-                lead_four h = rw (lt-leb b 127 past_single, le-leb 194 b first, lt-leb b 223 past_two, ne_eqb b 224 n224, ne_eqb b 237 n237, le-leb 225 b from_225, lt-leb b 239 past_three, ne_eqb b 240 n240, le-leb 241 b (omega arith), le-leb b 243 (omega arith)) refl
-
-                module _ (last : 244 ≤ b) where
-                  pub lead_244 : b ≡ 244 → lead_of b (Several 2 128 143) ≡ leads b
-                  unfolding lead_of leads
-                  lead_244 e = rw (lt-leb b 127 past_single, le-leb 194 b first, lt-leb b 223 past_two, ne_eqb b 224 n224, ne_eqb b 237 n237, le-leb 225 b from_225, lt-leb b 239 past_three, ne_eqb b 240 n240, le-leb 241 b (omega arith), lt-leb b 243 (omega arith), eq-eqb b 244 e) refl
-
-                  pub lead_high : (b ≡ 244 → ⊥) → lead_of b Ill ≡ leads b
-                  unfolding lead_of leads
-                  lead_high n244 = rw (lt-leb b 127 past_single, le-leb 194 b first, lt-leb b 223 past_two, ne_eqb b 224 n224, ne_eqb b 237 n237, le-leb 225 b from_225, lt-leb b 239 past_three, ne_eqb b 240 n240, le-leb 241 b (omega arith), lt-leb b 243 (omega arith), ne_eqb b 244 n244) refl
-
--- THE FIRST BYTE OF A TEXT, where the code says `l` of it
+-- THE BYTES BEHIND A FIRST ONE of several
 piece_between : (n : ℕ) (s : Bytes) → piece_from n between s ≡ Ok n
 unfolding piece_from
 piece_between n [] = refl
 piece_between n (b ∷ s) = refl
 
-pub first_single : (text : Bytes) {l : Lead} → NotEmpty text → lead_of (get_or text 0 0) l ≡ leads (get_or text 0 0) → l ≡ Single → Ok 1 ≡ piece_of text
-unfolding lead_of decode_byte piece_of
-first_single [] ne e is = absurd (omega (arith, ne.not_empty))
-first_single (b ∷ s) ne e is = rw (← e, is) (sym (piece_between 1 s))
-
-pub first_ill : (text : Bytes) {l : Lead} → NotEmpty text → lead_of (get_or text 0 0) l ≡ leads (get_or text 0 0) → l ≡ Ill → Err 1 ≡ piece_of text
-unfolding lead_of decode_byte piece_of
-first_ill [] ne e is = absurd (omega (arith, ne.not_empty))
-first_ill (b ∷ s) ne e is = rw (← e, is) refl
-
-pub first_of_several : (text : Bytes) {l : Lead} {more low high : ℕ} → NotEmpty text → lead_of (get_or text 0 0) l ≡ leads (get_or text 0 0) → l ≡ Several more low high → Begun text 1 more low high
-unfolding lead_of decode_byte piece_of
-first_of_several [] ne e is = absurd (omega (arith, ne.not_empty))
-first_of_several (b ∷ s) ne e is = record { inside = omega arith; piece_is = rw (← e, is) refl }
-
--- THE BYTES BEHIND IT
 module _ {text : Bytes} {n more low high : ℕ} (g : Begun text n more low high) where
   -- the text ends
   pub piece_cut : length text ≤ n → Err n ≡ piece_of text

@@ -15,37 +15,21 @@ pub enum Lead {
 }
 
 // What a first byte says.
+#[tactic(auto, unfolding(crate::specs::Pieces::lead_of, resp_spec::specs::Utf8::leads))]
 fn first_byte(byte: u8) -> Lead
     ensures { lead_of byte result ≡ leads byte }
 {
-    if byte < 128 {
-        return Lead::Single;
+    match byte {
+        0..=127 => Lead::Single,
+        194..=223 => Lead::Several(0, 128, 191),
+        224 => Lead::Several(1, 160, 191),
+        237 => Lead::Several(1, 128, 159),
+        225..=239 => Lead::Several(1, 128, 191),
+        240 => Lead::Several(2, 144, 191),
+        241..=243 => Lead::Several(2, 128, 191),
+        244 => Lead::Several(2, 128, 143),
+        _ => Lead::Ill,
     }
-    if byte < 194 {
-        return Lead::Ill;
-    }
-    if byte < 224 {
-        return Lead::Several(0, 128, 191);
-    }
-    if byte == 224 {
-        return Lead::Several(1, 160, 191);
-    }
-    if byte == 237 {
-        return Lead::Several(1, 128, 159);
-    }
-    if byte < 240 {
-        return Lead::Several(1, 128, 191);
-    }
-    if byte == 240 {
-        return Lead::Several(2, 144, 191);
-    }
-    if byte < 244 {
-        return Lead::Several(2, 128, 191);
-    }
-    if byte == 244 {
-        return Lead::Several(2, 128, 143);
-    }
-    Lead::Ill
 }
 
 // The piece at the front, whose first byte is the first of several.
@@ -56,27 +40,22 @@ fn piece_of_several(text: &[u8], more: usize, lowest: u8, highest: u8) -> Result
     let mut left = more;
     let mut low = lowest;
     let mut high = highest;
-    let mut n = 1;
-    while n < text.len() {
-        let byte = text[n];
-        if byte < low {
+    for n in 1..text.len() {
+        if text[n] < low || high < text[n] {
             return Err(n);
         }
-        if high < byte {
-            return Err(n);
-        }
-        n += 1;
         if left == 0 {
-            return Ok(n);
+            return Ok(n + 1);
         }
         left -= 1;
         low = 128;
         high = 191;
     }
-    Err(n)
+    Err(text.len())
 }
 
 // The piece at the front.
+#[tactic(auto, unfolding(crate::specs::Pieces::lead_of, crate::specs::Pieces::piece_of, crate::specs::Pieces::piece_from, resp_spec::specs::Utf8::decode_byte))]
 pub fn piece_at(text: &[u8]) -> Result<usize, usize>
     requires { NotEmpty text.now }
     ensures { result ≡ piece_of text.now }

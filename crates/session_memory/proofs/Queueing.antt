@@ -11,16 +11,17 @@ use lib.Dec.{leb}
 use lib.ListN.{length, get_or, take, set, length-append, length-set}
 use Rattle.base_key.proofs.Bytes.{length_part_lem, concat_append}
 use Rattle.base_key.specs.Bytes.{Bytes, part, over_front, concat, total, put_at}
+use Rattle.command_spec.specs.Command.{argument}
 use Rattle.command_spec.specs.Session.{queue_fits}
 use Rattle.command_spec.specs.Sessions.{queue_in, session_from, flag_word, session_words, session_bytes}
 use Rattle.command_spec.specs.Lent.{capped}
 use Rattle.command_spec.specs.Held.{Held}
-use Rattle.command_spec.specs.Places.{arguments_at, lengths_at, PartsIn, QueueSizes, Takes, HasRoom, queuing, Appended}
+use Rattle.command_spec.specs.Places.{argument_at, arguments_at, lengths_at, PartsIn, QueueSizes, Takes, HasRoom, queuing, Appended}
 use Rattle.command_spec.proofs.Parts.{total_append}
 use Rattle.session_memory.proofs.Sums.{capped_low, capped_high}
 use Rattle.base_key.proofs.Writes.{written_none, written_more, written_set, written_one, written_first, written_second, length_written, over_behind}
 use Rattle.session_memory.proofs.Kept.{front_part, data_length, queue_data_length, shape, bytes_shape, queue_count, queue_counts, queue_lengths, queue_bytes, failed_kept, watched_kept, keys_table, sequences_table, keys_data}
-use Rattle.command_spec.proofs.PlaceLaws.{lengths_next, lengths_snoc, lengths_count, arguments_snoc, arguments_count, arguments_lengths}
+use Rattle.command_spec.proofs.PlaceLaws.{lengths_next, lengths_snoc, lengths_count, arguments_snoc, arguments_count, arguments_lengths, argument_is}
 
 -- pieces one behind the other
 pub concat_one : {A : Type 0} (s : List (List A)) (x : List A) → concat (s ++ x ∷ []) ≡ concat s ++ x
@@ -79,40 +80,34 @@ module _ {b : Bytes} {at : ℕ} {s : Bytes} {p : List ℕ} {count : ℕ} {a : By
   pub next_place : i < count → at + total (lengths_at 0 count p) ≤ length b → pos + get_or p (2 * i + 1) 0 ≤ length a
   next_place h room = omega (arith, next_left h, k.same)
 
-  pub put_room : {start len : ℕ} → start ≡ get_or p (2 * i) 0 → len ≡ get_or p (2 * i + 1) 0 → i < count → at + total (lengths_at 0 count p) ≤ length b
-      → pos + length (part start (start + len - start) s) ≤ length a
-  put_room {start} {len} e f h room =
-      let m : start + len - start ≡ len = omega arith in
-      let l : length (part start (start + len - start) s) ≡ len = ap (λ (n : ℕ). length (part start n s)) m ∙ length_part_lem start len s (omega (arith, ps.inside i h)) in
-      omega (arith, next_place h room)
+  module _ (h : i < count) (room : at + total (lengths_at 0 count p) ≤ length b) {x : Bytes} (e : x ≡ argument i (arguments_at 0 count p s)) where
+    argument_here : x ≡ argument_at i p s
+    argument_here = e ∙ sym (argument_is p s count i h refl)
 
-  module _ {start len : ℕ} {a' : Bytes} (e : start ≡ get_or p (2 * i) 0) (f : len ≡ get_or p (2 * i + 1) 0) (put_is : a' ≡ put_at pos (part start (start + len - start) s) a) (h : i < count)
-      (room : at + total (lengths_at 0 count p) ≤ length b) where
-    argument : part start (start + len - start) s ≡ part (get_or p (2 * i) 0) (get_or p (2 * i + 1) 0) s
-    argument = let m : start + len - start ≡ get_or p (2 * i + 1) 0 = omega arith in λ z. part (e z) (m z) s
+    argument_length : length x ≡ get_or p (2 * i + 1) 0
+    argument_length = ap length argument_here ∙ length_part_lem (get_or p (2 * i) 0) (get_or p (2 * i + 1) 0) s (ps.inside i h)
 
-    argument_length : length (part (get_or p (2 * i) 0) (get_or p (2 * i + 1) 0) s) ≡ get_or p (2 * i + 1) 0
-    argument_length = length_part_lem (get_or p (2 * i) 0) (get_or p (2 * i + 1) 0) s (ps.inside i h)
+    pub put_room : pos + length x ≤ length a
+    put_room = omega (arith, next_place h room, argument_length)
 
-    stored : concat (arguments_at 0 (i + 1) p s) ≡ concat (arguments_at 0 i p s) ++ part (get_or p (2 * i) 0) (get_or p (2 * i + 1) 0) s
+    stored : concat (arguments_at 0 (i + 1) p s) ≡ concat (arguments_at 0 i p s) ++ x
     stored =
         ap (λ (m : ℕ). concat (arguments_at 0 m p s)) (add-one i) ∙ ap concat (arguments_snoc 0 i p s) ∙ concat_one (arguments_at 0 i p s) _
-        ∙ ap (λ (m : ℕ). concat (arguments_at 0 i p s) ++ part (get_or p (2 * m) 0) (get_or p (2 * m + 1) 0) s) (zero-add i)
+        ∙ ap (λ (m : ℕ). concat (arguments_at 0 i p s) ++ argument_at m p s) (zero-add i) ∙ ap (λ (y : Bytes). concat (arguments_at 0 i p s) ++ y) (sym argument_here)
 
-    pub storing_more : Storing b at s p count a' (pos + len) (i + 1)
-    storing_more =
-        let x : Bytes = part (get_or p (2 * i) 0) (get_or p (2 * i + 1) 0) s in
+    pub storing_more : {a' : Bytes} → a' ≡ put_at pos x a → Storing b at s p count a' (pos + length x) (i + 1)
+    storing_more {a'} put_is =
         let t : Bytes = concat (arguments_at 0 i p s) in
         let r : at + length t + length x ≤ length b = omega (arith, next_left h, k.pos_is, argument_length) in
         let is' : a' ≡ put_at at (concat (arguments_at 0 (i + 1) p s)) b =
-        put_is ∙ (λ z. put_at (k.pos_is z) (argument z) (k.is z)) ∙ written_more at t x b r ∙ ap (λ (y : Bytes). put_at at y b) (sym stored) in
+        put_is ∙ (λ z. put_at (k.pos_is z) x (k.is z)) ∙ written_more at t x b r ∙ ap (λ (y : Bytes). put_at at y b) (sym stored) in
         let l : length (concat (arguments_at 0 (i + 1) p s)) ≡ length t + length x = ap length stored ∙ length-append t x in
         record {
           within = omega arith;
           same = ap length is' ∙ length_written at (concat (arguments_at 0 (i + 1) p s)) b (omega arith);
           is = is';
           pos_is = omega (arith, k.pos_is, argument_length);
-          left = omega (arith, next_left h);
+          left = omega (arith, next_left h, argument_length);
         }
 
 -- THE LIMITS, in numbers: commands, arguments, bytes

@@ -16,11 +16,10 @@ use Rattle.command_spec.specs.Session.{Watching, watched_keys, add_keys, watch_f
 use Rattle.command_spec.specs.Sessions.{split_by, keys_in, paired, session_from, session_words, session_bytes}
 use Rattle.command_spec.specs.Lent.{capped}
 use Rattle.command_spec.specs.Held.{Held}
-use Rattle.command_spec.specs.Watch.{keys_of, WatchTable, watch_of, Holding, GrownTo, AllWatched, WatchPut}
+use Rattle.command_spec.specs.Watch.{keys_of, WatchTable, watch_of, Holding, AllWatched, WatchPut}
 use Rattle.session_memory.proofs.Sums.{capped_low}
 use Rattle.base_key.proofs.Writes.{written_first, written_second}
 use Rattle.session_memory.proofs.Kept.{shape, bytes_shape, front_part, data_length, multi_kept, failed_kept, queued_kept, counts_table, lengths_table, queue_data}
-use Rattle.std.specs.Prelude.{Option}
 
 -- a write over the whole list
 pub written_whole : (x l : List ℕ) → length l ≡ length x → put_at 0 x l ≡ x
@@ -35,13 +34,11 @@ module _ {w : List ℕ} {b : Bytes} (h : Held w b) where
   sequences_length = length_part_lem 36 32 w (omega (arith, h.words))
 
   -- the tables and the bytes, copied
-  module _ {n u : ℕ} (e : n ≡ get_or w 2 0) (f : u ≡ capped 2048 (total (part 4 n w))) {lens seqs : List ℕ} {text : Bytes}
-      (lens-are : lens ≡ part 4 32 w) (seqs-are : seqs ≡ part 36 32 w) (text_is : text ≡ part 0 2048 b) where
-    used_is : u ≡ total (part 4 (get_or w 2 0) w)
-    used_is = f ∙ ap (λ (x : ℕ). capped 2048 (total (part 4 x w))) e ∙ capped_low 2048 (total (part 4 (get_or w 2 0) w)) h.key_room
-
-    pub watch_table : WatchTable lens seqs text n u
-    watch_table =
+  module _ {n : ℕ} (e : n ≡ get_or w 2 0) {lens seqs : List ℕ} {text : Bytes} (lens-are : lens ≡ part 4 32 w) (seqs-are : seqs ≡ part 36 32 w) (text_is : text ≡ part 0 2048 b) where
+    pub watch_table : {u : ℕ} → u ≡ capped 2048 (total (part 4 n w)) → WatchTable lens seqs text n u
+    watch_table {u} f =
+        let used_is : u ≡ total (part 4 (get_or w 2 0) w) =
+        f ∙ ap (λ (x : ℕ). capped 2048 (total (part 4 x w))) e ∙ capped_low 2048 (total (part 4 (get_or w 2 0) w)) h.key_room in
         let k : total (take n lens) ≡ total (part 4 (get_or w 2 0) w) =
         (λ z. total (take (e z) (lens-are z))) ∙ ap total (sym (front_part h 4 32 (get_or w 2 0) h.few_keys)) in
         record {
@@ -57,16 +54,11 @@ module _ {w : List ℕ} {b : Bytes} (h : Held w b) where
     unfolding keys_of keys_in
     keys_are = (λ z. split_by (take (e z) (lens-are z)) (text_is z)) ∙ ap (λ (l : List ℕ). split_by l (part 0 2048 b)) (sym (front_part h 4 32 (get_or w 2 0) h.few_keys))
 
-    watch_is : watch_of lens seqs text n ≡ (session_from w b).watch
+    pub watch_is : watch_of lens seqs text n ≡ (session_from w b).watch
     unfolding watch_of session_from
     watch_is =
         let q : take n seqs ≡ part 36 (get_or w 2 0) w = (λ z. take (e z) (seqs-are z)) ∙ sym (front_part h 36 32 (get_or w 2 0) h.few_keys) in
         λ z. paired (keys_are z) (q z)
-
-    -- what adding gives, in the session's own words
-    pub grown_here : (last : ℕ) (ks : List Key) (lens' seqs' : List ℕ) (text' : Bytes) (r : Option (ℕ × ℕ)) → GrownTo (add_keys last ks (watch_of lens seqs text n)) lens lens' seqs seqs' text text' r
-        → GrownTo (add_keys last ks (session_from w b).watch) (part 4 32 w) lens' (part 36 32 w) seqs' (part 0 2048 b) text' r
-    grown_here last ks lens' seqs' text' r g = coe 0 1 (z. GrownTo (add_keys last ks (watch_is z)) (lens-are z) lens' (seqs-are z) seqs' (text_is z) text' r) g
 
 -- THE KEYS PUT BACK
 written_part : (at n : ℕ) (x l : List ℕ) → length x ≡ n → put_mid at n l x ≡ put_at at x l

@@ -2,7 +2,7 @@
 use mathlib.Core.Path.{◌≡◌, refl, sym, ap, ◌∙◌, subst}
 use mathlib.Core.Bool.{Bool, true, false, ◌&&◌}
 use mathlib.Core.List.{List, [], ◌∷◌, ◌++◌, map, append_assoc}
-use Prim.Native.Nat.{ℕ, zero, suc, ◌+◌, ◌-◌, ◌*◌, ◌<◌, ◌≤◌}
+use Prim.Native.Nat.{ℕ, zero, suc, ◌+◌, ◌-◌, ◌<◌, ◌≤◌}
 use native.Mathlib.Nat.{add-zero}
 use native.Mathlib.Numerals.{add-one}
 use native.Mathlib.Omega.{arith}
@@ -17,9 +17,7 @@ use Rattle.base_key.specs.Keys.{Key, compare_keys}
 use Rattle.store_memtable.specs.Table.{Entry}
 use Rattle.command_spec.specs.Session.{Watching, watched_keys, watched_sequences, add_key, add_keys, watch_fits}
 use Rattle.command_spec.specs.Sessions.{split_by, paired}
-use Rattle.command_spec.specs.Places.{arguments_at}
-use Rattle.command_spec.proofs.PlaceLaws.{arguments_next, arguments_end}
-use Rattle.command_spec.specs.Watch.{keys_of, KeysAt, inserted_at, SpotAt, ThereAt, Spotted, Holding, GrownTo, WatchTable, watch_of}
+use Rattle.command_spec.specs.Watch.{keys_of, KeysAt, inserted_at, SpotAt, ThereAt, Spotted, Holding, WatchTable, watch_of}
 use Rattle.command_spec.proofs.Parts.{split_drop, split_length, split_lengths, split_concat, over_own, total_append}
 use Rattle.command_spec.proofs.SplitLaws.{split_back, paired_keys, paired_sequences, paired_back}
 use Rattle.base_key.proofs.Writes.{written_one, length_moved}
@@ -462,75 +460,3 @@ holding_then {js} {ks} {l₀} {l₁} {l₂} {s₀} {s₁} {s₂} {t₀} {t₁} {
       bytes = b.bytes ∙ ap (over_front (concat (watched_keys ks))) a.bytes
           ∙ over_front_again (concat (watched_keys ks)) (concat (watched_keys js)) t₀ (rw (length_concat (watched_keys js), length_concat (watched_keys ks)) p.bytes);
     }
-
--- THE WALK OVER THE KEYS of the places from `from` to `to`: those before i are added.
-pub record Growing (last : ℕ) (p : List ℕ) (s : Bytes) (from to : ℕ) (lens seqs : List ℕ) (text : Bytes) (count : ℕ) (lens' seqs' : List ℕ) (text' : Bytes) (n u i : ℕ) : Type 0 where
-  pub low : from ≤ i
-  pub high : i ≤ to
-  pub same_lens : length lens' ≡ length lens
-  pub same_seqs : length seqs' ≡ length seqs
-  pub same_text : length text' ≡ length text
-  pub table : WatchTable lens' seqs' text' n u
-  pub holding : Holding (watch_of lens' seqs' text' n) lens lens' seqs seqs' text text' n u
-  pub is : add_keys last (arguments_at from (to - from) p s) (watch_of lens seqs text count) ≡ add_keys last (arguments_at i (to - i) p s) (watch_of lens' seqs' text' n)
-
-pub growing_none : (last : ℕ) (p : List ℕ) (s : Bytes) (from to : ℕ) (lens seqs : List ℕ) (text : Bytes) (count used : ℕ) → WatchTable lens seqs text count used → from ≤ to
-    → Growing last p s from to lens seqs text count lens seqs text count used from
-growing_none last p s from to lens seqs text count used t h = record {
-  low = omega arith;
-  high = h;
-  same_lens = refl;
-  same_seqs = refl;
-  same_text = refl;
-  table = t;
-  holding = holding_same t;
-  is = refl;
-}
-
-module _ {last : ℕ} {p : List ℕ} {s : Bytes} {from to : ℕ} {lens seqs : List ℕ} {text : Bytes} {count : ℕ} {lens' seqs' : List ℕ} {text' : Bytes} {n u i : ℕ}
-    (g : Growing last p s from to lens seqs text count lens' seqs' text' n u i) where
-  module _ {start len : ℕ} (e : start ≡ get_or p (2 * i) 0) (f : len ≡ get_or p (2 * i + 1) 0) (h : i < to) where
-    step_is : add_keys last (arguments_at from (to - from) p s) (watch_of lens seqs text count)
-        ≡ add_keys last (arguments_at (i + 1) (to - (i + 1)) p s) (add_key last (part start (start + len - start) s) (watch_of lens' seqs' text' n))
-    unfolding add_keys
-    step_is =
-        let m : start + len - start ≡ get_or p (2 * i + 1) 0 = omega arith in
-        g.is ∙ ap (λ (l : List Key). add_keys last l (watch_of lens' seqs' text' n)) (arguments_next p s h)
-        ∙ sym (λ z. add_keys last (arguments_at (i + 1) (to - (i + 1)) p s) (add_key last (part (e z) (m z) s) (watch_of lens' seqs' text' n)))
-
-    pub growing_full : watch_fits (watched_keys (add_key last (part start (start + len - start) s) (watch_of lens' seqs' text' n))) ≡ false
-        → watch_fits (watched_keys (add_keys last (arguments_at from (to - from) p s) (watch_of lens seqs text count))) ≡ false
-    growing_full q =
-        let w : Watching = add_key last (part start (start + len - start) s) (watch_of lens' seqs' text' n) in
-        let rest : List Key = arguments_at (i + 1) (to - (i + 1)) p s in
-        ap (λ (x : Watching). watch_fits (watched_keys x)) step_is ∙ fits_no_more (watched_keys w) (watched_keys (add_keys last rest w)) (adds_no_less last rest w) q
-
-    pub growing_more : {lens'' seqs'' : List ℕ} {text'' : Bytes} {m v : ℕ}
-        → Holding (add_key last (part start (start + len - start) s) (watch_of lens' seqs' text' n)) lens' lens'' seqs' seqs'' text' text'' m v
-        → Growing last p s from to lens seqs text count lens'' seqs'' text'' m v (i + 1)
-    growing_more {lens''} {seqs''} {text''} {m} {v} a =
-        let k : Key = part start (start + len - start) s in
-        let t : WatchTable lens'' seqs'' text'' m v = held_table a g.table.table g.table.sequences g.table.bytes in
-        let d : watch_of lens'' seqs'' text'' m ≡ add_key last k (watch_of lens' seqs' text' n) = held_keys_lem a in
-        record {
-          low = omega (arith, g.low);
-          high = omega arith;
-          same_lens = t.table ∙ sym g.table.table ∙ g.same_lens;
-          same_seqs = t.sequences ∙ sym g.table.sequences ∙ g.same_seqs;
-          same_text = t.bytes ∙ sym g.table.bytes ∙ g.same_text;
-          table = t;
-          holding = subst (λ (js : Watching). Holding js lens lens'' seqs seqs'' text text'' m v) (sym d) (holding_then g.holding (add_no_less last k (watch_of lens' seqs' text' n)) a);
-          is = step_is ∙ ap (add_keys last (arguments_at (i + 1) (to - (i + 1)) p s)) (sym d);
-        }
-
-  pub grown_all : to ≤ i → Holding (add_keys last (arguments_at from (to - from) p s) (watch_of lens seqs text count)) lens lens' seqs seqs' text text' n u
-  unfolding add_keys
-  grown_all h =
-      subst (λ (js : Watching). Holding js lens lens' seqs seqs' text text' n u) (sym (g.is ∙ ap (λ (l : List Key). add_keys last l (watch_of lens' seqs' text' n)) (arguments_end p s h))) g.holding
-
-pub grown_holding : (js : Watching) (lens lens' seqs seqs' : List ℕ) (text text' : Bytes) {r : Option (ℕ × ℕ)} {n u : ℕ} → GrownTo js lens lens' seqs seqs' text text' r → r ≡ Some (n, u)
-    → Holding js lens lens' seqs seqs' text text' n u
-grown_holding js lens lens' seqs seqs' text text' a e = subst (GrownTo js lens lens' seqs seqs' text text') e a
-
-pub grown_full : (js : Watching) (lens lens' seqs seqs' : List ℕ) (text text' : Bytes) {r : Option (ℕ × ℕ)} → GrownTo js lens lens' seqs seqs' text text' r → r ≡ None → watch_fits (watched_keys js) ≡ false
-grown_full js lens lens' seqs seqs' text text' a e = subst (GrownTo js lens lens' seqs seqs' text text') e a

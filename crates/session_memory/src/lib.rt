@@ -1,6 +1,8 @@
 // Words of one session in lent memory (layout at the head of `specs/Sessions.antt` of `command_spec`): one of them, and the sum of several.
 #![tactic(auto)]
 
+pub mod session;
+
 ghost use Rattle.std.specs.Prelude.{◌≡◌, ◌+◌, ◌<◌, ◌≤◌, length, ℕ, ◌*◌};
 ghost use Rattle.base_key.specs.Bytes.{part, total};
 ghost use Rattle.command_spec.specs.Lent.{capped};

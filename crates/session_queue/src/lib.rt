@@ -5,8 +5,10 @@ ghost use Rattle.std.specs.Prelude.{◌≡◌, ◌+◌, ◌*◌, ◌≤◌, leng
 ghost use Rattle.base_key.specs.Bytes.{part, total, concat, put_at};
 ghost use Rattle.command_spec.specs.Lent.{capped};
 ghost use Rattle.command_spec.specs.Held.{Held};
-ghost use Rattle.command_spec.specs.Places.{arguments_at, lengths_at, PartsIn, QueueSizes, Takes, HasRoom, Appended, places_of, Expandable};
+ghost use Rattle.command_spec.specs.Places.{lengths_at, QueueSizes, Takes, HasRoom, Appended, places_of, Expandable};
+ghost use Rattle.command_spec.specs.Requests.{arguments_of};
 
+use command_spec::request::Request;
 use session_memory::{
     ARGUMENTS, COUNTS, LENGTHS, MOST_ARGUMENT_BYTES, MOST_ARGUMENTS, MOST_QUEUED, QUEUED,
 };
@@ -38,45 +40,41 @@ pub fn takes(words: &[u64], places: &[u64], count: usize) -> bool
     lengths_within(places, count, left) <= left
 }
 
-// Writes the lengths of `count` arguments at `at`.
-fn put_lengths(words: &mut [u64], at: usize, places: &[u64], count: usize)
-    requires { (at + count ≤ length words.old) × (2 * count ≤ length places.now) }
-    ensures { words.new ≡ put_at at (lengths_at 0 count places.now) words.old }
+// Writes the lengths of the arguments at `at`.
+fn put_lengths(words: &mut [u64], at: usize, request: &Request)
+    requires { at + request.now.count ≤ length words.old }
+    ensures { words.new ≡ put_at at (lengths_at 0 request.now.count request.now.places.now) words.old }
 {
-    for i in 0..count {
-        words[at + i] = places[2 * i + 1];
+    for i in 0..request.count {
+        words[at + i] = request.places[2 * i + 1];
     }
 }
 
-// Writes `count` arguments one behind the other at `at`.
-fn put_arguments(bytes: &mut [u8], at: usize, input: &[u8], places: &[u64], count: usize)
-    requires parts_in { PartsIn places.now input.now count }
-    requires places_in_bounds { at + total (lengths_at 0 count places.now) ≤ length bytes.old }
-    ensures { bytes.new ≡ put_at at (concat (arguments_at 0 count places.now input.now)) bytes.old }
+// Writes the arguments one behind the other at `at`.
+fn put_arguments(bytes: &mut [u8], at: usize, request: &Request)
+    requires { at + total (lengths_at 0 request.now.count request.now.places.now) ≤ length bytes.old }
+    ensures { bytes.new ≡ put_at at (concat (arguments_of request.now)) bytes.old }
 {
     let mut pos = at;
-    for i in 0..count {
-        let start = session_memory::word(places, 2 * i);
-        let len = session_memory::word(places, 2 * i + 1);
-        let end = start + len;
-        base_writing::put_at(bytes, pos, &input[start..end]);
-        pos += len;
+    for i in 0..request.count {
+        let argument = request.argument(i);
+        base_writing::put_at(bytes, pos, argument);
+        pos += argument.len();
     }
 }
 
-// Appends a command whose arguments are the first `count` places, inside MULTI and with room for it.
-pub fn append(words: &mut [u64], bytes: &mut [u8], input: &[u8], places: &[u64], count: usize)
+// Appends a command, inside MULTI and with room for it.
+pub fn append(words: &mut [u64], bytes: &mut [u8], request: &Request)
     requires held { Held words.old bytes.old }
-    requires parts_in { PartsIn places.now input.now count }
-    requires has_room { HasRoom words.old places.now count }
-    ensures { Appended words.old words.new bytes.old bytes.new (arguments_at 0 count places.now input.now) }
+    requires has_room { HasRoom words.old request.now.places.now request.now.count }
+    ensures { Appended words.old words.new bytes.old bytes.new (arguments_of request.now) }
 {
     let queued = session_memory::word(words, QUEUED);
     let arguments = session_memory::sum_within(words, COUNTS, queued, MOST_ARGUMENTS);
     let used = session_memory::sum_within(words, LENGTHS, arguments, MOST_ARGUMENT_BYTES);
-    put_lengths(words, 132 + arguments, places, count);
-    put_arguments(bytes, ARGUMENTS + used, input, places, count);
-    words[68 + queued] = count as u64;
+    put_lengths(words, LENGTHS + arguments, request);
+    put_arguments(bytes, ARGUMENTS + used, request);
+    words[COUNTS + queued] = request.count as u64;
     words[QUEUED] = (queued + 1) as u64;
 }
 

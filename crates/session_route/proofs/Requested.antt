@@ -1,17 +1,16 @@
 -- A request by its route: the answer is that of `respond`, and the session that it leaves is valid. Assumes nothing.
-use Prim.Native.Nat.{ℕ, ◌-◌, ◌≤◌}
+use Prim.Native.Nat.{ℕ}
 use mathlib.Core.Path.{◌≡◌, refl, sym, ap, ◌∙◌, subst}
 use mathlib.Core.Bool.{Bool, true, false, cond}
 use mathlib.Core.List.{List, ◌∷◌}
 use lib.Dec.{leb}
 use lib.ListN.{length, get_or}
-use Rattle.command_spec.proofs.PlaceLaws.{arguments_of}
-use Rattle.base_key.specs.Bytes.{Bytes, part}
+use Rattle.base_key.specs.Bytes.{Bytes}
 use Rattle.resp_spec.specs.Reply.{encode}
 use Rattle.store_memtable.specs.Versions.{Store}
 use Rattle.store_memtable.proofs.VersionLaws.{Sound}
-use Rattle.command_spec.specs.declared.Answer.{Answer}
-use Rattle.command_spec.specs.Names.{Args, Row, row_of, name_word, control_of}
+use Rattle.command_spec.specs.Numbers.{AnswerNumbers}
+use Rattle.command_spec.specs.Names.{Args, Row, row_of, name_word, arguments, control_of}
 use Rattle.command_names.specs.declared.Row.{Row as CodeRow}
 use Rattle.command_names.specs.Rows.{Looked}
 use Rattle.command_spec.specs.Command.{executed_of}
@@ -20,7 +19,6 @@ use Rattle.command_spec.specs.Sessions.{yes?, queue_in, session_from, session_ok
 use Rattle.command_spec.specs.Lent.{OneSession}
 use Rattle.command_spec.specs.Finish.{Served, silent, fitted, finish_by, finish, Says, SessionLeft}
 use Rattle.command_spec.specs.Held.{Held}
-use Rattle.command_spec.specs.Places.{arguments_at}
 use Rattle.session_memory.proofs.Kept.{queue_held, held_by_tests}
 use Rattle.command_spec.proofs.SessionLaws.{SessionSound, respond_kept}
 use Rattle.command_spec.proofs.LayoutLaws.{session_sound, session_valid, words_long, bytes_long}
@@ -32,10 +30,10 @@ use Rattle.session_route.specs.declared.routes.Way.TheVariants.{Steer, Watch, Qu
 use Rattle.session_route.specs.Answers.{changing, Answered, AnsweredAt, AnsweredWith, Steered}
 use Rattle.session_route.specs.Routes.{route_by, step_done, queue_done, watch_done, way_done, route_done}
 use Rattle.command_answer.proofs.Finish.{replied}
-use Rattle.session_route.proofs.Routing.{name_first, request_routed}
+use Rattle.session_route.proofs.Routing.{request_routed}
 
 -- EACH WAY, by its function
-answered_with : {last : ℕ} {w w' : List ℕ} {b b' : Bytes} {used : ℕ} {out out' : Bytes} {r : Answer} (one two : Store → Session → Done) → ((st : Store) (s : Session) → st.last ≡ last → two st s ≡ one st s)
+answered_with : {last : ℕ} {w w' : List ℕ} {b b' : Bytes} {used : ℕ} {out out' : Bytes} {r : AnswerNumbers} (one two : Store → Session → Done) → ((st : Store) (s : Session) → st.last ≡ last → two st s ≡ one st s)
     → Answered one w w' b b' used out r out' → AnsweredWith last two w w' b b' used out r out'
 answered_with {last} {w} {w'} {b} {b'} {used} {out} {out'} {r} one two e a = record {
   is = λ st l. record {
@@ -44,34 +42,30 @@ answered_with {last} {w} {w'} {b} {b'} {used} {out} {out'} {r} one two e a = rec
   };
 }
 
-module _ {way : Way} {last : ℕ} {w w' : List ℕ} {b : Bytes} (h : Held w b) {used : ℕ} {out out' : Bytes} {r : Answer} (row : Row) where
+module _ {way : Way} {last : ℕ} {w w' : List ℕ} {b : Bytes} (h : Held w b) {used : ℕ} {out out' : Bytes} {r : AnswerNumbers} (row : Row) where
   pub way_steers : {step : Step} (a : Args) → way ≡ Steer step → Steered (step_done step) w w' used out r out' → AnsweredWith last (way_done way row a) w w' b b used out r out'
   way_steers {step} a e x = answered_with (step_done step) (way_done way row a) (λ st s l. rw e (unfold way_done in refl)) (x.is b h)
 
-  pub way_refuses : {word : Bytes} (count : ℕ) (places : List ℕ) (input : Bytes) → 1 ≤ count → word ≡ part (get_or places 0 0) (get_or places 1 0) input → way ≡ NotQueueable
-      → Steered (changing (not_queueable word) marked) w w' used out r out' → AnsweredWith last (way_done way row (arguments_at 0 count places input)) w w' b b used out r out'
-  way_refuses {word} count places input k n e x =
-      let a : Args = arguments_at 0 count places input in
+  pub way_refuses : {word : Bytes} (a : Args) → word ≡ name_word a → way ≡ NotQueueable → Steered (changing (not_queueable word) marked) w w' used out r out'
+      → AnsweredWith last (way_done way row a) w w' b b used out r out'
+  way_refuses {word} a n e x =
       answered_with (changing (not_queueable word) marked) (way_done way row a)
-      (λ st s l. rw e (unfold way_done in ap (λ (t : Bytes). changing (not_queueable t) marked st s) (name_first count places input k ∙ sym n))) (x.is b h)
+      (λ st s l. rw e (unfold way_done in ap (λ (t : Bytes). changing (not_queueable t) marked st s) (sym n))) (x.is b h)
 
-module _ {way : Way} {last : ℕ} {w w' : List ℕ} {b b' : Bytes} {used : ℕ} {out out' : Bytes} {r : Answer} where
+module _ {way : Way} {last : ℕ} {w w' : List ℕ} {b b' : Bytes} {used : ℕ} {out out' : Bytes} {r : AnswerNumbers} where
   pub way_queues : (row : Row) (a : Args) → way ≡ Queue → Answered (queue_done row a) w w' b b' used out r out' → AnsweredWith last (way_done way row a) w w' b b' used out r out'
   way_queues row a e x = answered_with (queue_done row a) (way_done way row a) (λ st s l. rw e (unfold way_done in refl)) x
 
-  pub way_watches : (row : Row) (count : ℕ) (places : List ℕ) (input : Bytes) → 1 ≤ count → way ≡ Watch → Answered (watch_done row (arguments_at 1 (count - 1) places input) last) w w' b b' used out r out'
-      → AnsweredWith last (way_done way row (arguments_at 0 count places input)) w w' b b' used out r out'
-  way_watches row count places input k e x =
-      answered_with (watch_done row (arguments_at 1 (count - 1) places input) last) (way_done way row (arguments_at 0 count places input))
-      (λ st s l. rw e (by_keys st s l)) x
+  pub way_watches : (row : Row) (a : Args) → way ≡ Watch → Answered (watch_done row (arguments a) last) w w' b b' used out r out' → AnsweredWith last (way_done way row a) w w' b b' used out r out'
+  way_watches row a e x = answered_with (watch_done row (arguments a) last) (way_done way row a) (λ st s l. rw e (by_last st s l)) x
     where
-      by_keys : (st : Store) (s : Session) → st.last ≡ last → way_done Watch row (arguments_at 0 count places input) st s ≡ watch_done row (arguments_at 1 (count - 1) places input) last st s
-      by_keys st s l = unfold way_done in (λ z. watch_done row (arguments_of places input count k z) (l z) st s)
+      by_last : (st : Store) (s : Session) → st.last ≡ last → way_done Watch row a st s ≡ watch_done row (arguments a) last st s
+      by_last st s l = unfold way_done in ap (λ (n : ℕ). watch_done row (arguments a) n st s) l
 
 -- THE ANSWER OF `respond`, by the route
 pub here_answers : (w : List ℕ) (b : Bytes) (a : Args) (row : CodeRow) (way : Way) {route : Route} → Looked (name_word a) row
     → route ≡ route_by (yes? (get_or w 0 0)) (control_of row.name) row.queueable → route ≡ Here way
-    → {last : ℕ} {w' : List ℕ} {b' : Bytes} {used : ℕ} {out out' : Bytes} {r : Answer} → AnsweredWith last (way_done way (row_of (name_word a)) a) w w' b b' used out r out'
+    → {last : ℕ} {w' : List ℕ} {b' : Bytes} {used : ℕ} {out out' : Bytes} {r : AnswerNumbers} → AnsweredWith last (way_done way (row_of (name_word a)) a) w w' b b' used out r out'
     → (st : Store) → st.last ≡ last → AnsweredAt st (respond a st (session_from w b)) w w' b b' used out r out'
 here_answers w b a row way {route} l e f {last} {w'} {b'} {used} {out} {out'} {r} x st k =
     let s : Session = session_from w b in

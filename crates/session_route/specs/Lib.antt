@@ -1,5 +1,5 @@
 -- The definitions of this crate.
 pub mod Answers
+pub mod Requests
 pub mod Responds
 pub mod Routes
-pub mod Watches

@@ -3,7 +3,7 @@ use Rattle.std.specs.Prelude.{ℕ, ◌≡◌, true, List, length, replicate}
 use Rattle.base_key.specs.Bytes.{Bytes}
 use Rattle.store_memtable.specs.Layout.{last_word, store_in}
 use Rattle.store_memtable.specs.Rows.{Valid}
-use Rattle.command_spec.specs.declared.Answer.{Answer}
+use Rattle.command_spec.specs.Numbers.{AnswerNumbers}
 use Rattle.command_spec.specs.Names.{Args}
 use Rattle.command_spec.specs.Session.{respond}
 use Rattle.command_spec.specs.Sessions.{session_from, session_ok}
@@ -15,7 +15,7 @@ unfoldable pub responded : ℕ → ℕ → Args → List ℕ → Bytes → List 
 responded room used a w b s sb = finish room used (respond a (store_in w b) (session_from s sb)) (store_in w b) (session_from s sb)
 
 -- the reply buffer, the store and the session, before and after
-pub record Left (d : Served) (out : Bytes) (w : List ℕ) (b : Bytes) (s : List ℕ) (sb : Bytes) (r : Answer) (out' : Bytes) (w' : List ℕ) (b' : Bytes) (s' : List ℕ) (sb' : Bytes) : Type 0 where
+pub record Left (d : Served) (out : Bytes) (w : List ℕ) (b : Bytes) (s : List ℕ) (sb : Bytes) (r : AnswerNumbers) (out' : Bytes) (w' : List ℕ) (b' : Bytes) (s' : List ℕ) (sb' : Bytes) : Type 0 where
   pub says : Says d out r out'
   pub store : StoreLeft d w b w' b'
   pub session : SessionLeft d s sb s' sb'

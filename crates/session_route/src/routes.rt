@@ -17,7 +17,7 @@ pub enum Step {
     Reply(Fixed),
 }
 
-// The requests that the session answers without the store.
+// The requests that the session answers without the store. An enum: `route_of` would have to hand out a closure, which is refused.
 #[derive(Clone, Copy)]
 pub enum Way {
     Steer(Step),

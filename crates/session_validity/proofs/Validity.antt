@@ -129,17 +129,6 @@ pub record Naming (w : List ℕ) (b : Bytes) (count first start i : ℕ) : Type 
   pub is : all_queueable (split_by (part 68 count w) (split_by (part 132 (total (part 68 count w)) w) (part 2048 8192 b)))
       ≡ all_queueable (split_by (part (68 + i) (count - i) w) (split_by (part (132 + first) (total (part (68 + i) (count - i) w)) w) (drop start (part 2048 8192 b))))
 
-pub naming_none : (w : List ℕ) (b : Bytes) (count : ℕ) → QueueIn w b count → Naming w b count 0 0 0
-naming_none w b count q =
-    let e : part 68 count w ≡ part (68 + 0) (count - 0) w = part_start w 68 count in
-    record {
-      within = omega arith;
-      arguments = rw (← e) (omega (arith, q.arguments));
-      room = rw (← e) (omega (arith, q.room));
-      named = ap all_positive (sym e) ∙ q.named;
-      is = ap (λ (l : List ℕ). all_queueable (split_by l (split_by (part 132 (total l) w) (part 2048 8192 b)))) e;
-    }
-
 -- what the first of the counts, not 0, tells of the rest
 positive_head : (n : ℕ) (ns : List ℕ) → all_positive (n ∷ ns) ≡ true → (0 < n) × (all_positive ns ≡ true)
 unfolding all_positive ◌and◌

@@ -1,4 +1,5 @@
 // Whether one session in its own lent words and bytes is valid (layout at the head of `specs/Sessions.antt` of `command_spec`), and all sixteen.
+// No struct holds the two: nothing is known of them yet that it could keep.
 #![tactic(auto)]
 
 ghost use Rattle.std.specs.Prelude.{◌≡◌, ◌+◌, ◌-◌, ◌<◌, ◌≤◌, length, get_or};
@@ -96,6 +97,7 @@ fn commands_queueable(words: &[u64], bytes: &[u8], count: usize) -> bool
 }
 
 // The watch of a session: within its limits, keys ascending, and none of their sequences above the last.
+// The limits return early, here and in `queue_fits`: with one `&&` chain each of three goals splits again into the tests in front of it.
 fn watch_ok(words: &[u64], bytes: &[u8], last: u64) -> bool
     requires { OneSession words.now bytes.now }
     ensures { result ≡ watch_ok last words.now bytes.now }

@@ -5,8 +5,7 @@ ghost use Rattle.store_memtable.specs.Layout.{store_in, leave_words, leave_bytes
 ghost use Rattle.store_memtable.specs.Rows.{RoomForOne, Valid, value_if};
 
 use crate::merge;
-use store_memtable::merge::Front;
-use store_memtable::{LAST, read};
+use store_memtable::{Front, LAST, read};
 
 // Commits one write at the sequence after the last: the value, or a tombstone where the write is not live.
 pub fn commit_one(words: &mut [u64], bytes: &mut [u8], name: &[u8], value: &[u8], live: bool)

@@ -1,4 +1,5 @@
-// Merging writes of ascending keys into a store, from the last to the first: each row and byte moves at most once.
+// Merging writes of ascending keys into a store, from the last to the first: each row and byte moves at most once. These take slices, not a
+// `StoreMut`: between the writes the store is not valid.
 ghost use Rattle.std.specs.Prelude.{◌≡◌, [], ◌∷◌, ℕ, ◌+◌, ◌*◌, ◌^◌, ◌≤◌, ◌<◌, length, set};
 ghost use Rattle.store_memtable.specs.Versions.{bytes_of};
 ghost use Rattle.store_memtable.specs.Layout.{start_word, key_word, value_word, seq_word, word_of_value};
@@ -7,8 +8,7 @@ ghost use Rattle.base_key.specs.Bytes.{put_at};
 ghost use Rattle.store_memtable.specs.Moves.{rows_moved};
 ghost use Rattle.store_memtable.specs.Merging.{Mergeable, start_in, row_merged, bytes_merged, front_after, words_after, bytes_after};
 
-use store_memtable::merge::Front;
-use store_memtable::{COUNT, LAST, USED, read};
+use store_memtable::{COUNT, Front, LAST, USED, read};
 
 // Where the version at place `at` of the front starts, or would.
 fn start_in(words: &[u64], at: usize, rows: usize, used: usize) -> usize

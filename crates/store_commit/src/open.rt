@@ -34,11 +34,5 @@ pub fn open(words: &mut [u64], bytes: &[u8], last: u64, versions: usize, size: u
 pub fn take_bytes(left: usize, key_len: usize, value_len: usize) -> Option<usize>
     ensures { result ≡ bytes_left left (key_len + value_len) }
 {
-    if left < key_len {
-        return None;
-    }
-    if left - key_len < value_len {
-        return None;
-    }
-    Some(left - key_len - value_len)
+    left.checked_sub(key_len)?.checked_sub(value_len)
 }

@@ -9,7 +9,7 @@ use lib.Dec.{eqb}
 use lib.ListN.{length, set}
 use borrow.Author.Tests.{ne_eqb}
 use Rattle.base_key.specs.Keys.{Key}
-use Rattle.store_memtable.specs.declared.merge.Front.{Front}
+use Rattle.store_memtable.specs.declared.Front.{Front}
 use Rattle.store_memtable.specs.Table.{Value, Write}
 use Rattle.store_memtable.specs.Versions.{bytes_of, commit_one, commit, writes_size}
 use Rattle.store_memtable.specs.Layout.{count_word, used_word, last_word, value_of_word, store_in, leave_words, leave_bytes}

@@ -12,7 +12,7 @@ use lib.Seq.{slice, drop_at, take_all, take-add, take-take, take-append-le, leng
 use borrow.Author.Tests.{ltb-true, ltb-false}
 use Rattle.base_key.specs.Bytes.{◌and◌, over_front}
 use Rattle.base_key.proofs.Bytes.{and_left, and_right}
-use Rattle.store_memtable.specs.declared.merge.Front.{Front}
+use Rattle.store_memtable.specs.declared.Front.{Front}
 use Rattle.store_memtable.specs.Table.{Write}
 use Rattle.store_memtable.specs.Versions.{Version, Store, bytes_of, size_of, sorted, sorted_after, before, commit, writes_size}
 use Rattle.store_memtable.specs.Layout.{count_word, used_word, last_word, start_word, end_word, versions_from, store_in, word_of_value, row_words, version_bytes, leave_words, leave_bytes}

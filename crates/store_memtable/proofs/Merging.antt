@@ -8,7 +8,7 @@ use lib.ListN.{length, take, drop, length-drop}
 use lib.Seq.{slice, take-add, length-take-le}
 use lib.Dec.{ltb}
 use borrow.Author.Tests.{ltb-true}
-use Rattle.store_memtable.specs.declared.merge.Front.{Front}
+use Rattle.store_memtable.specs.declared.Front.{Front}
 use Rattle.store_memtable.specs.Layout.{start_word}
 use Rattle.base_key.specs.Bytes.{moved_up, put_at}
 use Rattle.store_memtable.specs.Moves.{shift_rows, rows_moved}

@@ -15,7 +15,6 @@ use Rattle.base_key.proofs.Keys.{precedes, precedes_back, precedes_trans, less_i
 use Rattle.store_memtable.specs.Versions.{Version, bytes_of, sorted, sees, find_from, newest, read_at}
 use Rattle.store_memtable.specs.Layout.{count_word, start_word, key_word, value_word, seq_word, value_of_word, value_part, version_at, versions_from}
 use Rattle.store_memtable.specs.Rows.{versions_in, RowIn, Readable, Valid, order_with, place_of, count_on, live_found, value_found}
-use Rattle.store_memtable.specs.Merging.{FrontIn}
 use Rattle.store_memtable.proofs.VersionLaws.{Ahead, After, all_after, sorted_rest, SeqsIn, found_here, find_by_place, newest_first, newest_other}
 use Rattle.std.specs.Prelude.{Option}
 
@@ -121,15 +120,6 @@ module _ (w b k : List ℕ) (s : ℕ) where
       go true e = sym (lt-ltb j _ (omega (arith, place_above 0 n j o (omega arith) (omega arith) e)))
       go false e = sym (le-ltb j _ (omega (arith, place_below 0 n j (omega arith) (omega arith) e)))
 
--- all versions are a front
-module _ (w b : List ℕ) {n : ℕ} (n-is : n ≡ count_word w) where
-  pub front_all : Valid w b → FrontIn w b n
-  front_all v = record {
-    rows_in = omega (arith, v.readable.rows_in);
-    ends_in = λ i h. v.readable.ends_in i (omega arith);
-    ordered = ap (λ (x : ℕ). sorted (versions_from w b 0 x)) n-is ∙ v.ordered;
-  }
-
 -- THE VERSION A READ FINDS, from its place
 module _ (w b k : List ℕ) (s : ℕ) (ok : sorted (versions_in w b) ≡ true) {i : ℕ} (i-is : i ≡ place_of k s (versions_in w b)) where
   found_is : find_from 0 (versions_in w b) k s ≡ found_here i k (versions_from w b i (count_word w - i))
@@ -226,9 +216,6 @@ module _ (w b k : List ℕ) (s : ℕ) {o : Option ℕ} (is : o ≡ live_found w 
       go : (x : Option ℕ) → find_from 0 (versions_in w b) k s ≡ x → i < count_word w
       go (Some j) f = found_in w b k s (sym f) (pick j (eqb (value_word w j) 0) (sym (ap (live_found w) f) ∙ sym is ∙ e))
       go None f = let z : live_found w None ≡ Some i = sym (ap (live_found w) f) ∙ sym is ∙ e in let y : ◌≡◌ {A = ℕ} 0 1 = cc in absurd (omega arith)
-
-  pub read_row : {i : ℕ} → Valid w b → o ≡ Some i → RowIn w b i
-  read_row {i} v e = row_of w b i v (read_in e)
 
 -- THE NEWEST SEQUENCE, from what a read at the last sequence finds
 pub newest_at_lem : (w b k : List ℕ) (l i n j : ℕ) → sorted (versions_from w b i n) ≡ true → SeqsIn l (versions_from w b i n)

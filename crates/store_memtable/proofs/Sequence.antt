@@ -2,16 +2,16 @@
 use mathlib.Core.Path.{◌≡◌, sym, ap, ◌∙◌, subst}
 use mathlib.Core.List.{List, [], ◌∷◌, ◌++◌}
 use Rattle.std.specs.Prelude.{Option}
-use Prim.Native.Nat.{ℕ, ◌+◌, ◌≤◌, ◌<◌}
+use Prim.Native.Nat.{ℕ, suc, ◌+◌, ◌≤◌, ◌<◌}
 use native.Mathlib.Omega.{arith}
 use lib.ListN.{length, drop, take-append-drop}
 use Rattle.base_key.specs.Bytes.{over_front}
 use Rattle.base_key.specs.Keys.{Key}
 use Rattle.store_memtable.specs.Table.{Value, Write}
-use Rattle.store_memtable.specs.Versions.{Store, bytes_of, size_of, commit_one, commit, writes_size, versions_size}
+use Rattle.store_memtable.specs.Versions.{Version, Store, bytes_of, size_of, commit_one, commit, writes_size, versions_size}
 use Rattle.store_memtable.specs.Layout.{count_word, used_word, last_word, most_versions_word, most_bytes_word, store_in, leave_words, leave_bytes}
 use Rattle.store_memtable.specs.Rows.{RoomForOne, Valid}
-use Rattle.store_memtable.proofs.VersionLaws.{Room, sound_commit, commit_count, commit_size, later_commit}
+use Rattle.store_memtable.proofs.VersionLaws.{Room, length_insert, size_insert, sound_commit, commit_count, commit_size, later_commit}
 use Rattle.store_memtable.proofs.Moves.{five}
 use Rattle.store_memtable.proofs.Encoding.{encoded, leave_words_lem, versions_size_lem}
 use Rattle.store_memtable.proofs.LayoutLaws.{Held, store_back, left_valid, leave_words_again, leave_bytes_again, valid_fits, valid_sound}
@@ -88,6 +88,37 @@ module _ {st : Store} {w₀ b₀ w b : List ℕ} (h : Holds st w₀ b₀ w b) wh
         → Holds (commit_one (k, x) st) w₀ b₀ w' b'
     unfolding commit writes_size
     holds_one p q = holds_commit ((k, x) ∷ []) (record { counts = omega arith; sizes = omega arith }) p q
+
+-- one write more in a store that stands for itself: the store with it, and what its header says
+pub record OneMore (wr : Write) (w₀ b₀ w b w' b' : List ℕ) : Type 0 where
+  pub holds : Holds (store_in w' b') w₀ b₀ w' b'
+  pub store : commit_one wr (store_in w b) ≡ store_in w' b'
+  pub rows : count_word w' ≡ count_word w + 1
+  pub used : used_word w' ≡ used_word w + size_of wr.0 wr.1
+  pub last : last_word w' ≡ last_word w + 1
+  pub most_rows : most_versions_word w' ≡ most_versions_word w
+  pub most_bytes : most_bytes_word w' ≡ most_bytes_word w
+
+pub one_more : {w₀ b₀ w b w' b' : List ℕ} → Holds (store_in w b) w₀ b₀ w b → (wr : Write) → count_word w < most_versions_word w → used_word w + size_of wr.0 wr.1 ≤ most_bytes_word w
+    → w' ≡ leave_words (commit_one wr (store_in w b)) w → b' ≡ leave_bytes (commit_one wr (store_in w b)) b → OneMore wr w₀ b₀ w b w' b'
+unfolding commit_one
+one_more {w₀} {b₀} {w} {b} {w'} {b'} h wr row bytes p q =
+    let st : Store = store_in w b in
+    let new : Version = record { key = wr.0; seq = suc st.last; value = wr.1 } in
+    let c = holds_count h in
+    let u = holds_used h in
+    let mv = holds_most_versions h in
+    let mb = holds_most_bytes h in
+    let h' : Holds (commit_one wr st) w₀ b₀ w' b' = holds_one h wr.0 wr.1 (omega (arith, row, c, mv)) (omega (arith, bytes, u, mb)) p q in
+    record {
+      holds = subst (λ (x : Store). Holds x w₀ b₀ w' b') (sym (holds_store h')) h';
+      store = sym (holds_store h');
+      rows = let n = length_insert new st.versions in omega (arith, c, holds_count h', n);
+      used = let m = size_insert new st.versions in omega (arith, u, holds_used h', m);
+      last = omega (arith, holds_last h, holds_last h');
+      most_rows = holds_most_versions h' ∙ sym mv;
+      most_bytes = holds_most_bytes h' ∙ sym mb;
+    }
 
 -- a commit of one leaves a valid store
 pub committed_valid : (w b : List ℕ) (k : Key) (x : Option Value) {w' b' : List ℕ} → Valid w b → RoomForOne w k (bytes_of x)

@@ -164,9 +164,6 @@ module _ (w b : List ℕ) (i : ℕ) {o : Option ℕ} (is : o ≡ next_live w b i
   pub found_below : j < count_word w
   found_below = let f = walk_entry w b i (count_word w - i) j (sym is ∙ e) in omega (arith, f.0, f.1.0)
 
-  pub found_row : Valid w b → RowIn w b j
-  found_row v = row_of w b j v found_below
-
 -- a walk by places: at place i it stops, or goes on behind it
 pub next_step : (w b : List ℕ) (n i : ℕ) → i < n → next_live w b i (n - i) ≡ cond (live_at w b i) (Some i) (next_live w b (i + 1) (n - (i + 1)))
 unfolding next_live

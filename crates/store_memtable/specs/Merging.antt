@@ -2,7 +2,7 @@
 use Rattle.std.specs.Prelude.{ℕ, ◌+◌, ◌-◌, ◌*◌, ◌≤◌, ◌<◌, ◌≡◌, true, cond, List, ◌∷◌, ◌++◌, ltb, take, drop, length}
 use Rattle.std.proofs.Math.Seq.{slice}
 use Rattle.base_key.specs.Bytes.{Bytes}
-use Rattle.store_memtable.specs.declared.merge.Front.{Front}
+use Rattle.store_memtable.specs.declared.Front.{Front}
 use Rattle.store_memtable.specs.Table.{Write}
 use Rattle.store_memtable.specs.Versions.{Store, sorted, bytes_of, size_of}
 use Rattle.store_memtable.specs.Layout.{start_word, end_word, versions_from, word_of_value, row_words}

@@ -1,4 +1,4 @@
-// The walk over the live keys, ascending.
+// The walk over the live keys, ascending. These ask for less than a valid store, so they take slices.
 ghost use Rattle.std.specs.Prelude.{◌≡◌, ◌-◌, length};
 ghost use Rattle.base_key.specs.Keys.{same_key};
 ghost use Rattle.store_memtable.specs.Versions.{table};

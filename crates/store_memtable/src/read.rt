@@ -1,38 +1,40 @@
-// Reading a store: the words and parts of a version, and the version that a read finds.
+// Reading a store: the words and parts of a version, and the version that a read finds. These take slices, not a `Store`:
+// the check of validity and the merge read words and bytes that are no valid store yet.
 ghost use Rattle.std.specs.Prelude.{◌≡◌, ◌+◌, ◌-◌, ◌*◌, ◌≤◌, ◌<◌, length, get_or, eqb};
 ghost use Rattle.base_key.specs.Keys.{is_less, same_key};
-ghost use Rattle.store_memtable.specs.Versions.{find_from, moved, newest, order_of};
-ghost use Rattle.store_memtable.specs.Layout.{seq_word, value_part, value_word, version_at, versions_from};
-ghost use Rattle.store_memtable.specs.Rows.{RowIn, Valid, live_found, order_with, place_of, versions_in};
+ghost use Rattle.store_memtable.specs.Versions.{order_of};
+ghost use Rattle.store_memtable.specs.Layout.{most_bytes_word, seq_word, used_word, value_part, value_word, version_at, versions_from};
+ghost use Rattle.store_memtable.specs.Rows.{RowIn, order_with, place_of};
 ghost use Rattle.store_memtable.specs.Merging.{FrontIn};
 
-use crate::search;
-use crate::store::Store;
+use crate::{MOST_BYTES, USED, search};
 use std::cmp::Ordering;
-
-// A word as an index.
-fn index(x: u64) -> usize
-    ensures { result ≡ x }
-{
-    x as usize
-}
 
 // The word at `at` as an index.
 pub fn word(words: &[u64], at: usize) -> usize
     requires { at < length words.now }
     ensures { result ≡ get_or words.now at 0 }
 {
-    index(words[at])
+    words[at] as usize
 }
 
-// The length that a value word says.
+// The length that a value word says. A bare `saturating_sub(1)` at its places would not say why one goes.
 pub fn value_len(word: usize) -> usize
     ensures { result ≡ word - 1 }
 {
     word.saturating_sub(1)
 }
 
-// The bytes of version i's key.
+// The bytes that are free.
+pub fn free_bytes(words: &[u64]) -> usize
+    requires in_bounds { 5 ≤ length words.now }
+    requires within { used_word words.now ≤ most_bytes_word words.now }
+    ensures { result ≡ most_bytes_word words.now - used_word words.now }
+{
+    word(words, MOST_BYTES) - word(words, USED)
+}
+
+// The bytes of version i's key. `RowIn` is about the place that is given, another at each call: no struct keeps it.
 pub fn key_of<'a, 'b>(words: &'a [u64], bytes: &'b [u8], i: usize) -> &'b [u8]
     requires { RowIn words.now bytes.now i }
     ensures { result.now ≡ (version_at words.now bytes.now i).key }
@@ -111,23 +113,7 @@ pub fn is_of(words: &[u64], bytes: &[u8], i: usize, name: &[u8]) -> bool
     base_key::same(key_of(words, bytes, i), name)
 }
 
-// The place of the value that a read of `name` at `seq` gives: none where it finds a tombstone.
-pub fn find_value(words: &[u64], bytes: &[u8], name: &[u8], seq: u64) -> Option<usize>
-    requires { Valid words.now bytes.now }
-    ensures { result ≡ live_found words.now (find_from 0 (versions_in words.now bytes.now) name.now seq) }
-{
-    Store { words, bytes }.find_value(name, seq)
-}
-
-// Has `name` a version above `seq`?
-pub fn moved(words: &[u64], bytes: &[u8], name: &[u8], seq: u64) -> bool
-    requires { Valid words.now bytes.now }
-    ensures { result ≡ moved seq (versions_in words.now bytes.now) name.now }
-{
-    Store { words, bytes }.moved(name, seq)
-}
-
-// An index as a word.
+// An index as a word. An index has 64 bits here: `u64::try_from` would answer an error that never comes.
 pub fn wide(x: usize) -> u64
     ensures { result ≡ x }
 {

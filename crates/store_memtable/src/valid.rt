@@ -34,21 +34,13 @@ fn row_end(words: &[u64], i: usize, pos: usize) -> Option<usize>
     if read::word(words, row) != pos {
         return None;
     }
-    let used = read::word(words, 1);
-    let left = used - pos;
-    let key_len = read::word(words, row + 1);
-    if left < key_len {
-        return None;
-    }
-    let rest = left - key_len;
-    let val_len = read::value_len(read::word(words, row + 2));
-    if rest < val_len {
-        return None;
-    }
     if words[LAST] < words[row + 3] {
         return None;
     }
-    Some(used - (rest - val_len))
+    let used = read::word(words, 1);
+    let behind_key = (used - pos).checked_sub(read::word(words, row + 1))?;
+    let rest = behind_key.checked_sub(read::value_len(read::word(words, row + 2)))?;
+    Some(used - rest)
 }
 
 // The versions lie one behind the other, from 0 up to the bytes used.

@@ -15,4 +15,4 @@ pub returns-in-Lists : goal.returns-in-Lists
 returns-in-Lists c = search list_answers
 
 pub returns-in-Refused : goal.returns-in-Refused
-returns-in-Refused c = search refusal_answers
+returns-in-Refused c = search (refusal_answers, c.answer_refusal.ensures)

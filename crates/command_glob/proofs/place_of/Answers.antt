@@ -1,5 +1,9 @@
-use Rattle.command_glob.proofs.Globbing.{byte_passed_more}
+-- `command_glob::place_of` meets its contract. One law for each way out. Assumes nothing.
+use Rattle.command_glob.proofs.Globbing.{place_found, place_missing}
 use Rattle.command_glob.proofs.place_of.Goals as goal
 
-pub loop-i-preserved : goal.loop-i-preserved
-loop-i-preserved c = search byte_passed_more
+pub returns-in-Some : goal.returns-in-Some
+returns-in-Some c = search place_found
+
+pub returns-in-None : goal.returns-in-None
+returns-in-None c = search place_missing

@@ -1,14 +1,11 @@
-use Rattle.command_names.proofs.Lookup.{passed_none, passed_more, found_here_lem, fits_here, not_found}
+use Rattle.command_names.proofs.Lookup.{passed_none, passed_more, found_here_lem, not_found}
 use Rattle.command_names.proofs.look_up.Goals as goal
 
 pub loop-row-init : goal.loop-row-init
 loop-row-init c = search passed_none
 
-pub is_named-requires : goal.is_named-requires
-is_named-requires c = search fits_here
-
-pub returns-then-is_named : goal.returns-then-is_named
-returns-then-is_named c = search found_here_lem
+pub returns-then-same : goal.returns-then-same
+returns-then-same c = search found_here_lem
 
 pub loop-row-preserved : goal.loop-row-preserved
 loop-row-preserved c = search passed_more

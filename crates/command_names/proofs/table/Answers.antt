@@ -5,4 +5,4 @@ use Rattle.command_names.proofs.table.Goals as goal
 
 pub returns : goal.returns
 unfolding rows
-returns c = record { meant = refl; within = refl }
+returns c = record { meant = refl }

@@ -4,4 +4,4 @@ use borrow.Author.Rules.{rules}
 use Rattle.frames.proofs.next_line.Goals as goal
 
 pub loop-next-preserved : goal.loop-next-preserved
-loop-next-preserved c = (search rules, (search rules, output_on c.loop-next.invariant.1.1 (output_room _ 131072 _ 131072 (c.find_end-next-in-loop-next.ensures.filled_value ∙ c.read_on-more.ensures.filled_value))))
+loop-next-preserved c = (search rules, output_on c.loop-next.invariant.1 (output_room _ 131072 _ 131072 (c.find_end-next-in-loop-next.ensures.filled_value ∙ c.read_on-more.ensures.filled_value)))

@@ -3,13 +3,9 @@ use Rattle.std.proofs.Common.{rules}
 use Rattle.store_memtable.specs.Rows.{room_in, bytes_left}
 use Rattle.group_judge.proofs.has_room.Goals as goal
 
-pub returns-in-Some : goal.returns-in-Some
+pub returns-then-count-word : goal.returns-then-count-word
 unfolding room_in bytes_left
-returns-in-Some c = search rules
-
-pub returns-in_default : goal.returns-in_default
-unfolding room_in bytes_left
-returns-in_default c = search rules
+returns-then-count-word c = search rules
 
 pub returns-else-count-word : goal.returns-else-count-word
 unfolding room_in bytes_left

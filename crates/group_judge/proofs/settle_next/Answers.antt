@@ -1,7 +1,7 @@
 -- `group_judge::settle_next` meets its contract. A member that is not taken leaves all. Assumes nothing.
 use Rattle.std.proofs.Common.{rules}
 use Rattle.group_spec.specs.Settling.{step_verdict}
-use Rattle.group_spec.proofs.Settled.{member_rows, stays_words, stays_bytes}
+use Rattle.group_spec.proofs.Settled.{member_rows, untaken}
 use Rattle.group_judge.proofs.settle_next.Goals as goal
 use Rattle.group_judge.proofs.settle_next.Goals.{then-taken_at, else-taken_at}
 
@@ -12,10 +12,6 @@ pub returns-clause-verdicts_after : goal.returns-clause-verdicts_after
 unfolding step_verdict
 returns-clause-verdicts_after c = elim c.if-taken_at.branch [ then-taken_at w ↦ search rules | else-taken_at w ↦ search rules ]
 
-pub returns-clause-words_after : goal.returns-clause-words_after
+pub returns-clause-left : goal.returns-clause-left
 unfolding step_verdict
-returns-clause-words_after c = elim c.if-taken_at.branch [ then-taken_at w ↦ search rules | else-taken_at w ↦ search (rules, stays_words) ]
-
-pub returns-clause-bytes_after : goal.returns-clause-bytes_after
-unfolding step_verdict
-returns-clause-bytes_after c = elim c.if-taken_at.branch [ then-taken_at w ↦ search rules | else-taken_at w ↦ search (rules, stays_bytes) ]
+returns-clause-left c = elim c.if-taken_at.branch [ then-taken_at w ↦ search rules | else-taken_at w ↦ untaken _ _ _ (search rules) w.store-is ]

@@ -8,5 +8,5 @@ use Rattle.group_walk.proofs.members_inside.Goals as goal
 
 pub returns : goal.returns
 returns c =
-    all_from_yields_List (member_inside c.args.parts.now c.args.«data».now) _ _ _ c.all.ensures.ran (YieldsList-from_slice c.args.members.now cc) (λ x b q k. search rules)
+    all_from_yields_List (member_inside c.args.parts.table.now c.args.parts.«data».now) _ _ _ c.all.ensures.ran (YieldsList-from_slice c.args.members.now cc) (λ x b q k. search rules)
     ∙ inside_listed _ _ _

@@ -11,8 +11,8 @@ returns-in-Wait t c = passed_wait c.loop.invariant c.loop-test.true c.step.ensur
 pub returns-in-Fault : goal.returns-in-Fault
 returns-in-Fault t c = passed_fault c.loop.invariant c.loop-test.true c.step.ensures c.in-Fault.is
 
-pub returns-in-Returned : goal.returns-in-Returned
-returns-in-Returned t c = passed_number c.loop.invariant c.loop-test.true c.step.ensures c.in-Returned.is
+pub returns-in-Refused : goal.returns-in-Refused
+returns-in-Refused t c = passed_number c.loop.invariant c.loop-test.true c.step.ensures c.in-Refused.is
 
 pub returns-in_default : goal.returns-in_default
 returns-in_default t c = passed_array_stops c.loop.invariant c.loop-test.true c.step.ensures c.in-Opens.is c.put_item-in-Opens.ensures c.read_items.ensures c.in_default.not-Whole

@@ -1,5 +1,5 @@
 use native.Mathlib.Omega.{arith}
-use Rattle.resp_utf8.proofs.Pieces.{Sized, whole_sized, broken_sized, rest_not_empty}
+use Rattle.resp_utf8.proofs.Pieces.{Sized, whole_sized, broken_sized}
 use Rattle.resp_sanitize.proofs.Letters.{shown_none, shown_whole, shown_broken, shown_full, shown_all}
 use Rattle.resp_sanitize.proofs.put_clean_lossy.Goals.{In-Err, In-Ok}
 use Rattle.resp_sanitize.proofs.put_clean_lossy.Goals as goal
@@ -14,8 +14,8 @@ broken c = search broken_sized
 pub loop-at-init : goal.loop-at-init
 loop-at-init c = search shown_none
 
-pub returns-in_default : goal.returns-in_default
-returns-in_default c = search shown_full
+pub returns-in_err-put : goal.returns-in_err-put
+returns-in_err-put c = shown_full c.loop-at.invariant c.in_err-put.was c.from_residual.ensures
 
 pub overflow_add-at : goal.overflow_add-at
 overflow_add-at c = omega (arith, whole (goal.at.overflow_add-at c).In-Ok)

@@ -1,5 +1,5 @@
 use native.Mathlib.Omega.{arith}
-use Rattle.resp_utf8.proofs.Pieces.{Sized, checked_none, checked_all, checked_more, checked_ill, rest_not_empty, whole_sized}
+use Rattle.resp_utf8.proofs.Pieces.{Sized, checked_none, checked_all, checked_more, checked_ill, whole_sized}
 use Rattle.resp_utf8.proofs.is_utf8.Goals.{In-Ok}
 use Rattle.resp_utf8.proofs.is_utf8.Goals as goal
 

@@ -5,7 +5,7 @@ pub loop-i-init : goal.loop-i-init
 loop-i-init c = search storing_none
 
 pub put_at-requires : goal.put_at-requires
-put_at-requires c = put_room c.loop-i.invariant c.requires.parts_in c.word-start.ensures c.word-len.ensures c.loop-i-test.true c.requires.places_in_bounds
+put_at-requires c = search put_room
 
 pub loop-i-preserved : goal.loop-i-preserved
 loop-i-preserved c = search storing_more

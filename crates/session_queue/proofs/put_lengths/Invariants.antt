@@ -3,4 +3,4 @@ use Rattle.session_memory.proofs.Queueing.{Listing}
 use Rattle.session_queue.proofs.put_lengths.Given as goal
 
 abbrev pub invariant-loop-i : goal.invariant-loop-i
-invariant-loop-i l = Listing l.initial.words l.at l.places l.count l.words l.i
+invariant-loop-i l = Listing l.initial.words l.at l.request.places.now l.request.count l.words l.i

@@ -1,9 +1,6 @@
 use native.Mathlib.Omega.{arith}
-use Rattle.session_validity.proofs.Validity.{naming_none, naming_more, name_room, lengths_room, places_fit, not_queueable_lem, all_queueable_lem}
+use Rattle.session_validity.proofs.Validity.{naming_more, name_room, lengths_room, places_fit, not_queueable_lem, all_queueable_lem}
 use Rattle.session_validity.proofs.commands_queueable.Goals as goal
-
-pub loop-i-init : goal.loop-i-init
-loop-i-init c = search naming_none
 
 pub command_queueable-requires : goal.command_queueable-requires
 command_queueable-requires c = name_room c.requires c.loop-i.invariant c.loop-i-test.true c.word-size.ensures

@@ -6,10 +6,10 @@ pub loop-i-init : goal.loop-i-init
 loop-i-init c = search passing_none
 
 pub overflow_add-end : goal.overflow_add-end
-overflow_add-end c = omega (arith, passing_room c.loop-i.invariant c.requires.held c.loop-i-test.true)
+overflow_add-end c = omega (arith, passing_room c.loop-i.invariant c.args.session.now.held c.loop-i-test.true)
 
 pub slice_bounds-moved-end : goal.slice_bounds-moved-end
-slice_bounds-moved-end c = omega (arith, passing_room c.loop-i.invariant c.requires.held c.loop-i-test.true)
+slice_bounds-moved-end c = omega (arith, passing_room c.loop-i.invariant c.args.session.now.held c.loop-i-test.true)
 
 pub returns-then-moved : goal.returns-then-moved
 returns-then-moved c = search passing_found

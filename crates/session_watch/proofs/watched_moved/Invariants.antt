@@ -4,4 +4,4 @@ use Rattle.store_memtable.specs.Rows.{versions_in}
 use Rattle.session_watch.proofs.watched_moved.Given as goal
 
 abbrev pub invariant-loop-i : goal.invariant-loop-i
-invariant-loop-i l = Passing (versions_in l.words l.bytes) l.session_words l.session_bytes l.count l.start l.i
+invariant-loop-i l = Passing (versions_in l.store.words.now l.store.bytes.now) l.session.words.now l.session.bytes.now l.count l.start l.i

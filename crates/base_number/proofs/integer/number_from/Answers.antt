@@ -1,5 +1,5 @@
 -- `base_number::integer::number_from` meets its contract. Assumes nothing.
-use Rattle.std.proofs.Common.{◌≡◌, ℕ, refl, ap, ◌∙◌, pos, ◌-ℤ◌, neg_ℤ, arith, rules}
+use Rattle.std.proofs.Common.{◌≡◌, ℕ, ap, ◌∙◌, pos, ◌-ℤ◌, neg_ℤ, arith, rules}
 use Rattle.std.proofs.lemmas.Int.{ints}
 use Rattle.base_number.specs.Number.{number_of, signed, number_in}
 use Rattle.base_number.proofs.Signed.{number_is, number_ok}

@@ -7,8 +7,8 @@ use Rattle.command_direct.proofs.kinds.run_kind.Goals as goal
 pub overflow_sub-request : goal.overflow_sub-request
 overflow_sub-request c = search pairs_some
 
-pub run_pairs-requires-clause-parts_in : goal.run_pairs-requires-clause-parts_in
-run_pairs-requires-clause-parts_in c = search pairs_in
+pub run_pairs-requires-clause-pairs_inside : goal.run_pairs-requires-clause-pairs_inside
+run_pairs-requires-clause-pairs_inside c = search pairs_in
 
 pub run_tombstones-requires-clause-le_count : goal.run_tombstones-requires-clause-le_count
 run_tombstones-requires-clause-le_count c = search tombstones_some

@@ -1,5 +1,5 @@
 -- `command_direct::listings::put_listing` meets its contract. Assumes nothing.
-use Rattle.command_direct.proofs.Listed.{keys_counted, lists_dbsize, lists_keys, lists_range, lists_range_up, lists_scan, range_counted, range_up_counted, scan_counted}
+use Rattle.command_direct.proofs.Listed.{keys_counted, lists_dbsize, lists_keys, lists_range, lists_scan, range_counted, scan_counted}
 use Rattle.command_direct.proofs.listings.put_listing.Goals as goal
 
 pub argument-requires : goal.argument-requires
@@ -10,9 +10,6 @@ put_scan-requires c = search scan_counted
 
 pub put_range-requires : goal.put_range-requires
 put_range-requires c = search range_counted
-
-pub put_range-requires-in-RangeUpTo : goal.put_range-requires-in-RangeUpTo
-put_range-requires-in-RangeUpTo c = search range_up_counted
 
 pub returns-in-Dbsize : goal.returns-in-Dbsize
 returns-in-Dbsize c = search lists_dbsize
@@ -25,6 +22,3 @@ returns-in-Scan c = search lists_scan
 
 pub returns-in-Range : goal.returns-in-Range
 returns-in-Range c = search lists_range
-
-pub returns-in-RangeUpTo : goal.returns-in-RangeUpTo
-returns-in-RangeUpTo c = search lists_range_up

@@ -3,4 +3,4 @@ use Rattle.command_room.proofs.Served.{runs_quiet}
 use Rattle.command_direct.proofs.replies.answer_fixed.Goals as goal
 
 pub returns : goal.returns
-returns c = search runs_quiet
+returns c = λ w b valid bound. runs_quiet _ w b _ valid bound c.requires c.put_fixed-put.ensures c.put_answer.ensures

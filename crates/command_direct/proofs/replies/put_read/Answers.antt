@@ -9,11 +9,11 @@ argument-requires c = search least_value
 pub put_live-requires : goal.put_live-requires
 put_live-requires c = search least_one
 
-pub put_values-requires-clause-le_count : goal.put_values-requires-clause-le_count
-put_values-requires-clause-le_count c = search least_one
+pub then_values-requires : goal.then_values-requires
+then_values-requires c = search least_one
 
-pub argument-text-requires : goal.argument-text-requires
-argument-text-requires c = search least_echo
+pub argument-requires-in-Echo : goal.argument-requires-in-Echo
+argument-requires-in-Echo c = search least_echo
 
 pub returns-in-Value : goal.returns-in-Value
 returns-in-Value c = search read_value

@@ -1,6 +1,6 @@
 -- `command_meaning::options::scan_options` meets its contract. The invariant: the options before this pair are read, `Scanning`. Assumes nothing.
 use Prim.Native.Nat.{◌*◌}
-use Rattle.command_meaning.specs.Requests.{arguments_of}
+use Rattle.command_spec.specs.Requests.{arguments_of}
 use Rattle.command_meaning.proofs.OptionLaws.{Scanning}
 use Rattle.command_meaning.proofs.options.scan_options.Given as goal
 

@@ -1,8 +1,5 @@
-use Rattle.command_room.proofs.Writes.{lasting_none, lasting_more, lasting_short, lasting_all}
+use Rattle.command_room.proofs.Writes.{lasting_more, lasting_short, lasting_all}
 use Rattle.command_room.proofs.room.lengths_left.Goals as goal
-
-pub loop-i-init : goal.loop-i-init
-loop-i-init c = search lasting_none
 
 pub returns-then-rest-len : goal.returns-then-rest-len
 returns-then-rest-len c = search lasting_short

@@ -1,4 +1,3 @@
-use Prim.Native.Nat.{◌-◌}
 use Rattle.command_room.proofs.Writes.{Lasting}
 use Rattle.command_room.proofs.room.lengths_left.Given as goal
 

@@ -1,9 +1,6 @@
 -- `exec_queued::live::then_live` meets its contract. Assumes nothing.
-use Rattle.exec_queued.proofs.LiveLaws.{live_small, live_replied}
+use Rattle.exec_queued.proofs.LiveLaws.{live_replied}
 use Rattle.exec_queued.proofs.live.then_live.Goals as goal
-
-pub int_of-requires : goal.int_of-requires
-int_of-requires c = search live_small
 
 pub returns : goal.returns
 returns c = search live_replied

@@ -6,11 +6,11 @@ use Rattle.exec_run.proofs.answers.then_read.Goals as goal
 pub argument-requires : goal.argument-requires
 argument-requires c = search least_value
 
-pub then_live-requires-clause-le_count : goal.then_live-requires-clause-le_count
-then_live-requires-clause-le_count c = search least_one
+pub then_live-requires : goal.then_live-requires
+then_live-requires c = search least_one
 
-pub then_values-requires-clause-from_le_to : goal.then_values-requires-clause-from_le_to
-then_values-requires-clause-from_le_to c = search least_one
+pub then_values-requires : goal.then_values-requires
+then_values-requires c = search least_one
 
 pub argument-requires-in-Echo : goal.argument-requires-in-Echo
 argument-requires-in-Echo c = search least_echo

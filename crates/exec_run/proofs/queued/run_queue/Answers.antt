@@ -1,4 +1,4 @@
-use Rattle.exec_run.proofs.WalkLaws.{walking_none, count_least, may_queue_lem, places_in, few_places, lent_parts, lent_within, rows_room, walking_more, walked_all}
+use Rattle.exec_run.proofs.WalkLaws.{walking_none, count_least, may_queue_lem, places_in, few_places, lent_within, may_run, walking_more, walked_all}
 use native.Mathlib.Omega.{arith}
 use Rattle.exec_run.proofs.queued.run_queue.Goals as goal
 
@@ -20,17 +20,14 @@ slice_bounds-run_queued-count-in-loop-i c = search lent_within
 pub slice_bounds-run_queued-start-in-loop-i : goal.slice_bounds-run_queued-start-in-loop-i
 slice_bounds-run_queued-start-in-loop-i c = search lent_within
 
-pub run_queued-at-requires-clause-parts_in : goal.run_queued-at-requires-clause-parts_in
-run_queued-at-requires-clause-parts_in c = lent_parts c.loop-i.invariant c.requires.queued c.word-queued.ensures c.loop-i-test.true c.word-count.ensures
+pub run_queued-at-requires-clause-may_run : goal.run_queued-at-requires-clause-may_run
+run_queued-at-requires-clause-may_run c = may_run c.loop-i.invariant c.requires.queued c.word-queued.ensures c.loop-i-test.true c.word-count.ensures c.requires.session_words_in_bounds
 
 pub run_queued-at-requires-clause-le_count : goal.run_queued-at-requires-clause-le_count
 run_queued-at-requires-clause-le_count c = count_least c.loop-i.invariant c.requires.queued c.word-queued.ensures c.loop-i-test.true c.word-count.ensures
 
 pub run_queued-at-requires-clause-data_value : goal.run_queued-at-requires-clause-data_value
 run_queued-at-requires-clause-data_value c = may_queue_lem c.loop-i.invariant c.requires.queued c.word-queued.ensures c.loop-i-test.true c.word-count.ensures
-
-pub run_queued-at-requires-clause-count_in_bounds : goal.run_queued-at-requires-clause-count_in_bounds
-run_queued-at-requires-clause-count_in_bounds c = rows_room c.loop-i.invariant c.requires.queued c.word-queued.ensures c.loop-i-test.true c.word-count.ensures c.requires.session_words_in_bounds
 
 pub overflow_add-first : goal.overflow_add-first
 overflow_add-first c = omega (arith, few_places c.loop-i.invariant c.requires.queued c.word-queued.ensures c.loop-i-test.true c.word-count.ensures)

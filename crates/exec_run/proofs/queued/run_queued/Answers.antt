@@ -12,8 +12,8 @@ run_pairs-requires-clause-in_pairs c = search pairs_counted
 pub run_counter-requires-clause-le_count : goal.run_counter-requires-clause-le_count
 run_counter-requires-clause-le_count c = search counter_counted
 
-pub then_read-next-requires-clause-read_bound : goal.then_read-next-requires-clause-read_bound
-then_read-next-requires-clause-read_bound c = search read_counted
+pub then_read-put-requires : goal.then_read-put-requires
+then_read-put-requires c = search read_counted
 
 pub returns-in-Pairs : goal.returns-in-Pairs
 returns-in-Pairs c = search queued_pairs

@@ -6,4 +6,4 @@ pub add_end-requires-clause-mark_fits : goal.add_end-requires-clause-mark_fits
 add_end-requires-clause-mark_fits c = mark_fits _ _ c.mark_after.ensures c.requires.mark_fits
 
 pub returns : goal.returns
-returns c = line_ended c.requires.memory c.requires.rest_at c.keep-kept.ensures c.mark_after.ensures c.add_end.ensures
+returns c = line_ended c.args.held.now.sizes c.requires.rest_at c.keep-kept.ensures c.mark_after.ensures c.add_end.ensures

@@ -1,12 +1,12 @@
 -- `frames_console::step::step_of` meets its contract. Assumes nothing.
-use Rattle.frames_console.proofs.StepLaws.{step_number, step_none, step_some}
+use Rattle.frames_console.proofs.StepLaws.{step_error, step_none, step_some}
 use Rattle.frames_console.proofs.step.step_of.Goals as goal
 
-pub returns-then-answer-gt0 : goal.returns-then-answer-gt0
-returns-then-answer-gt0 c = search step_number
+pub returns-in-Err : goal.returns-in-Err
+returns-in-Err c = search step_error
 
-pub returns-then-answer-eq0 : goal.returns-then-answer-eq0
-returns-then-answer-eq0 c = search step_none
+pub returns-in-Ok : goal.returns-in-Ok
+returns-in-Ok c = search step_none
 
-pub returns : goal.returns
-returns c = search step_some
+pub returns-in-Ok-2 : goal.returns-in-Ok-2
+returns-in-Ok-2 c = step_some _ c.in-Ok-2.is (λ z. c.if-answer-eq0.false (cc (z, c.in-Ok.is, c.in-Ok-2.is))) c.done_with-done.ensures

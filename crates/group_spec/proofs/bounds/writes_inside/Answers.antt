@@ -8,5 +8,5 @@ use Rattle.group_spec.proofs.bounds.writes_inside.Goals as goal
 
 pub returns : goal.returns
 returns c =
-    all_from_yields_List (write_inside c.args.parts.now c.args.«data».now) _ _ _ c.all.ensures.ran (YieldsList-from_range c.args.first _ c.args.count refl (omega arith)) (λ x b q k. search rules)
+    all_from_yields_List (write_inside c.args.parts.table.now c.args.parts.«data».now) _ _ _ c.all.ensures.ran (YieldsList-from_range c.args.first _ c.args.count refl (omega arith)) (λ x b q k. search rules)
     ∙ all_listed _ _ _

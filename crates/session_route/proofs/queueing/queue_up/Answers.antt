@@ -2,11 +2,11 @@
 use Rattle.session_route.proofs.Enqueueing.{queue_miscounted, queue_options, queue_counted}
 use Rattle.session_route.proofs.queueing.queue_up.Goals as goal
 
+pub returns-then-not-count_right : goal.returns-then-not-count_right
+returns-then-not-count_right c = search queue_miscounted
+
 pub returns-then-with_options : goal.returns-then-with_options
 returns-then-with_options c = search queue_options
 
-pub returns-then-count_right : goal.returns-then-count_right
-returns-then-count_right c = search queue_counted
-
 pub returns : goal.returns
-returns c = search queue_miscounted
+returns c = search queue_counted

@@ -1,12 +1,16 @@
--- `session_route::watching::watch_arguments` meets its contract. By what adding the keys gave. Assumes nothing.
-use Prim.Native.Nat.{◌-◌}
-use Rattle.command_spec.specs.Places.{arguments_at}
-use Rattle.session_route.proofs.WatchAnswers.{watch_refused, watch_kept}
+-- `session_route::watching::watch_arguments` meets its contract. By what adding the keys gave, and by what was put. Assumes nothing.
+use Rattle.session_route.proofs.Answering.{put_wrote, put_full}
+use Rattle.session_route.proofs.WatchAnswers.{watch_refused, watch_full, watch_wrote}
 use Rattle.session_route.proofs.watching.watch_arguments.Goals as goal
 
-pub returns-in-None : goal.returns-in-None
-returns-in-None c = search watch_refused
+pub returns-in_err-ok_or : goal.returns-in_err-ok_or
+returns-in_err-ok_or c = watch_refused _ c.add_keys.new.self c.of-watch.ensures _ _ _ c.add_keys.ensures c.requires.out_value c.in_err-ok_or.ensures.value _ c.from_residual.ensures.1
 
-pub returns-in-Some : goal.returns-in-Some
-returns-in-Some c = watch_kept c.requires.held (arguments_at 1 (c.args.count - 1) c.args.places.now c.args.input.now) c.args.last c.requires.out_value c.grow-grown.new.lens c.grow-grown.new.seqs c.grow-grown.new.text
-    c.grow-grown.ensures c.in-Some.is c.keep_watch.ensures
+pub returns-in_err-answer : goal.returns-in_err-answer
+returns-in_err-answer c =
+    watch_full _ c.add_keys.new.self c.of-watch.ensures _ _ _ c.add_keys.ensures c.in_ok-ok_or.ensures.value c.requires.out_value c.put_fixed-put.ensures
+    (put_full _ _ _ c.in_err-answer.ensures c.from_residual-in_err-answer.ensures.1)
+
+pub returns : goal.returns
+returns c =
+    watch_wrote _ c.add_keys.new.self c.of-watch.ensures _ _ _ c.add_keys.ensures c.in_ok-ok_or.ensures.value c.requires.out_value c.put_fixed-put.ensures (put_wrote _ c.in_ok-answer.ensures) c.keep.ensures

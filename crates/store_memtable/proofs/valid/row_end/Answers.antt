@@ -9,17 +9,17 @@ pub returns-then-word-pos : goal.returns-then-word-pos
 unfolding row_end row_ok ◌and◌
 returns-then-word-pos c = search rules
 
-pub returns-then-left-key_len : goal.returns-then-left-key_len
-unfolding row_end row_ok ◌and◌
-returns-then-left-key_len c = search rules
-
-pub returns-then-rest-val_len : goal.returns-then-rest-val_len
-unfolding row_end row_ok ◌and◌
-returns-then-rest-val_len c = search rules
-
 pub returns-then-words-row : goal.returns-then-words-row
 unfolding row_end row_ok ◌and◌
 returns-then-words-row c = search rules
+
+pub returns-in_err-behind_key : goal.returns-in_err-behind_key
+unfolding row_end row_ok ◌and◌
+returns-in_err-behind_key c = search rules
+
+pub returns-in_err-rest : goal.returns-in_err-rest
+unfolding row_end row_ok ◌and◌
+returns-in_err-rest c = search rules
 
 pub returns : goal.returns
 unfolding row_end row_ok ◌and◌

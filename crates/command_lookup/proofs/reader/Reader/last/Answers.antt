@@ -3,8 +3,8 @@ use Rattle.command_writes.proofs.Growing.{own_none}
 use Rattle.command_writes.proofs.Readers.{reader_none}
 use Rattle.command_lookup.proofs.reader.Reader.last.Goals as goal
 
-pub invariant_of-result : goal.invariant_of-result
-invariant_of-result c = search own_none
+pub invariant_of-writes : goal.invariant_of-writes
+invariant_of-writes c = search own_none
 
 pub returns : goal.returns
 returns c = reader_none _ _ _ _ _

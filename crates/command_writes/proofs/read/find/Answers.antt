@@ -1,9 +1,0 @@
--- `command_writes::read::find` meets its contract. The row at the place holds the key, or none does. Assumes nothing.
-use Rattle.command_writes.proofs.Places.{found_at, found_nothing}
-use Rattle.command_writes.proofs.read.find.Goals as goal
-
-pub returns-then-holds : goal.returns-then-holds
-returns-then-holds c = search found_at
-
-pub returns : goal.returns
-returns c = search found_nothing

@@ -1,6 +1,0 @@
--- `session_route::answers::reply_only` meets its contract. The reply alone, `only-replied`. Assumes nothing.
-use Rattle.session_route.proofs.Answering.{only_replied}
-use Rattle.session_route.proofs.answers.reply_only.Goals as goal
-
-pub returns : goal.returns
-returns c = search only_replied

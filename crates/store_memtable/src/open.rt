@@ -1,1 +1,0 @@
-// What the definitions name of `store_commit::open`.
