@@ -67,7 +67,10 @@ def antt_place(crate, kind, path):
 
 
 def item_place(crate, *rest):
-    files = [rest[0]] if len(rest) > 1 else ["lib", "main"]
+    in_root = len(rest) == 1 or text(f"crates/{crate}/src/{rest[0]}.rt") is None  # a module, else a type of the root file
+    files = ["lib", "main"] if in_root else [rest[0]]
+    if len(rest) > 1 and in_root and not any(re.search(r"\bimpl\b.*\b" + re.escape(rest[0]) + r"\b", text(f"crates/{crate}/src/{f}.rt") or "") for f in files):
+        return None
     for place in (f"crates/{crate}/src/{file}.rt" for file in files):
         if re.search(r"\b(?:fn|enum|struct|const|mod) " + re.escape(rest[-1]) + r"\b", text(place) or ""):
             return place

@@ -21,7 +21,7 @@ import sys
 TOP = os.path.dirname(os.path.dirname(os.path.abspath(__file__)))
 LEAVES = (
     "base_key base_writing base_number base_decimal resp_spec resp_utf8 resp_headers resp_bulk resp_parse reply_item reply_reader resp_sanitize resp_encode "
-    "resp_items resp_faults command_glob command_names session_memory session_validity session_flags session_queue session_watch"
+    "resp_items resp_faults command_glob command_names session_memory session_validity session_flags session_queue session_watch base_input"
 ).split()
 WITHOUT = {"session_flags::unwatch"}  # its only line stands twice in its file, and an edit names a line that stands once
 TRIED = re.compile(r"^rt: must-fail ([a-z_0-9]+)/([\w.-]+)\.edit: (.*)$", re.M)
@@ -68,9 +68,9 @@ def fact(crate, said):
 
 def public_functions(crate):
     for path in glob.glob(os.path.join(TOP, "crates", crate, "src", "*.rt")):
-        module = os.path.basename(path)[:-3]
-        for name in re.findall(r"^ *pub fn (\w+)", read(path), re.M):
-            yield "::".join([crate] + ([] if module == "lib" else [module]) + [name])
+        for n, line in enumerate(read(path).split("\n"), 1):
+            if re.match(r" *pub fn \w+", line):
+                yield function_at(crate, os.path.join("src", os.path.basename(path)), n)
 
 
 def faults_of_rows(facts, edits):

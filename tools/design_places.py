@@ -71,6 +71,15 @@ def counted_loop(function):
     return found
 
 
+def switches(function):
+    """matches of which three arms or more are a call alone"""
+    found = 0
+    for m in re.finditer(r"^( *)(?:[\w ]+= )?match [^\n]* \{\n(.*?)^\1\}", function.body, re.M | re.S):
+        arms = re.findall(r"^%s    [^\n]*=> (?:\{\n\s*)?(?:\w+::)*[a-z]\w*\(" % m.group(1), m.group(2), re.M)
+        found += len(arms) >= 3
+    return found
+
+
 CONVERSIONS = {
     "wide", "index", "word_of", "magnitude", "four", "eight", "lower", "upper_byte", "lower_byte", "is_space", "clean_byte", "begins_with", "is_minus_one", "is_zero",
     "clear_words", "put_words", "move_down", "shift_up", "hex_value", "int_of", "value_len", "same_front", "same_blocks", "compare", "same", "verdict_byte", "put_at",
@@ -104,15 +113,14 @@ def main():
                 place("1 an own enum of the shape of " + kind, where + " " + name)
         for m in re.finditer(r"^    (?:pub )?(number|verdict|found|state|has_\w+|kind): u(?:64|8),", text, re.M):
             place("1 a number for a kind, a refusal or a flag: field", where + " " + m.group(1))
-        for m in re.finditer(r"^(?:pub )?const (\w+): u64 = \d+;", text, re.M):
-            if re.search(r"^(?:pub )?const \w+: u64 = \d+;\n\n(?:pub )?const", text[m.start() :], re.M) or "_" in m.group(1):
-                pass
         for f in functions(where, text):
             label = where + " " + f.name
             if re.search(r"\bnumber: u64|\bverdict: u64", f.head) or re.search(r"_number$", f.name):
                 place("1 a number for a kind, a refusal or a flag: parameter or result", label)
             for name in counted_loop(f):
                 place("3 a loop that counts an index by hand", label + " (" + name + ")")
+            if switches(f):
+                place("7 a switch on which step to run", label)
             if f.name in CONVERSIONS:
                 place("4 equality, order, copying or conversion by hand", label)
             if len(re.findall(r"\bLess => true\b|\bGreater => false\b|\bEqual => false\b", f.body)) >= 2 and "Less => true" in f.body:
