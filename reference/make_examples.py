@@ -9,7 +9,7 @@ The published examples were written down from memory, without the pages at hand.
 A record is a byte that tells its kind, three bytes of length, the highest first, and its bytes:
   #      a label: written as it is, in front of the next record's line
   2 4 8  a request, read with places for so many arguments
-  ?      a pattern and a name, two records
+  ?      a pattern and a name, two records; one that is not whole is empty
   =      a byte of size, and items, which are records, written behind one another into a buffer of that size
 An item is + a simple string, - an error, $ a bulk string, * the head of an array that counts the item's bytes, : an integer
 and n the digits of a number, which is a record, or of the sum of two, _ nil, 0 the nil array, c the greatest cursor, x EXEC of a failed
@@ -122,6 +122,11 @@ def matches(group, label, pattern, name, expected):
 
 def keys_page(pattern, name):
     matches("published patterns", "KEYS page, ", pattern, name, "matches")
+
+
+def cut_pattern(label, data, expected):
+    """A record of a pattern and a name that are not both whole: what is not whole is empty."""
+    case("patterns", f"{label} ({shown(data)})", "?", data, expected)
 
 
 def glob(pattern, name, expected):
@@ -378,6 +383,10 @@ def patterns():
     glob("*ab*b", "ab", "does not match")
     glob("b*a", "c", "does not match, by the end")
     glob("[*]", "x]", "does not match")
+    cut_pattern("neither record", b"", "matches")
+    cut_pattern("the pattern is cut short", b"?\0\0\3ab", "matches")
+    cut_pattern("no name", record("?", b"*"), "matches")
+    cut_pattern("the name is cut short", record("?", b"a") + b"?\0\0\2a", "does not match")
 
 
 FFFD = r"\xef\xbf\xbd"

@@ -13,16 +13,12 @@ use command_spec::pattern::Compared;
 use records::Record;
 use std::io::Stdout;
 
-// What a pattern answers to a name, which are two records, and the line's end.
+// What a pattern answers to a name, which are two records, and the line's end. One that is not whole is empty.
 fn pattern(stdout: Stdout, both: &[u8]) {
-    let Some((pattern, rest)) = records::split(both) else {
-        return;
-    };
-    let Some((name, _)) = records::split(rest) else {
-        return;
-    };
+    let (pattern, rest) = records::bytes_at_front(both);
+    let (name, _) = records::bytes_at_front(rest);
     // A `match`: the input tells which runs, and no function may hand a closure out.
-    match command_glob::compare(pattern.bytes, name.bytes) {
+    match command_glob::compare(pattern, name) {
         Compared::Matches => lines::text(stdout, b"matches\n"),
         Compared::Differs => lines::text(stdout, b"does not match\n"),
         Compared::DiffersByTheEnd => lines::text(stdout, b"does not match, by the end\n"),

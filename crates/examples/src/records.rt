@@ -20,3 +20,11 @@ pub fn split(input: &[u8]) -> Option<(Record<'_>, &[u8])>
     let (bytes, rest) = behind.split_at_checked(len)?;
     Some((Record { kind: *kind, bytes }, rest))
 }
+
+// The bytes of the record at the front, and what stands behind it: no bytes where it is not whole.
+pub fn bytes_at_front(input: &[u8]) -> (&[u8], &[u8]) {
+    match split(input) {
+        Some((record, rest)) => (record.bytes, rest),
+        None => (&[], &[]),
+    }
+}
