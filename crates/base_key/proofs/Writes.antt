@@ -73,25 +73,26 @@ module _ {A : Type 0} where
       ∙ append_assoc (take n l) u (drop (n + length u) l)
 
 -- the walk that writes: the first i have been written
-pub record Putting (d : List ℕ) (at : ℕ) (s a : List ℕ) (i : ℕ) : Type 0 where
-  pub within : i ≤ length s
-  pub is : a ≡ paste d at s i
-  pub same : length a ≡ length d
+module _ {A : Type 0} where
+  pub record Putting (d : List A) (at : ℕ) (s a : List A) (i : ℕ) : Type 0 where
+    pub within : i ≤ length s
+    pub is : a ≡ paste d at s i
+    pub same : length a ≡ length d
 
-pub putting_none : (d : List ℕ) (at : ℕ) (s : List ℕ) → Putting d at s d 0
-putting_none d at s = record { within = omega arith; is = paste-zero d at s; same = refl }
+  pub putting_none : (d : List A) (at : ℕ) (s : List A) → Putting d at s d 0
+  putting_none d at s = record { within = omega arith; is = paste-zero d at s; same = refl }
 
-module _ {d : List ℕ} {at : ℕ} {s a : List ℕ} {i : ℕ} (p : Putting d at s a i) where
-  pub putting_more : at + length s ≤ length d → i < length s → Putting d at s (set a (at + i) (get_or s i 0)) (i + 1)
-  putting_more room h = record {
-    within = omega arith;
-    is = rw (p.is, add-one) (paste-suc d at s i 0 (omega arith) h);
-    same = length-set a _ _ ∙ p.same;
-  }
+  module _ {d : List A} {at : ℕ} {s a : List A} {i : ℕ} (p : Putting d at s a i) where
+    pub putting_more : at + length s ≤ length d → i < length s → (x : A) → x ≡ get_or s i x → Putting d at s (set a (at + i) x) (i + 1)
+    putting_more room h x e = record {
+      within = omega arith;
+      is = ap (λ (y : A). set a (at + i) y) e ∙ rw (p.is, add-one) (paste-suc d at s i x (omega arith) h);
+      same = length-set a _ _ ∙ p.same;
+    }
 
-  pub putting_all : length s ≤ i → a ≡ put_at at s d
-  unfolding put_at
-  putting_all h = rw (p.is, le_antisymm p.within h, take-length, append_assoc)
+    pub putting_all : length s ≤ i → a ≡ put_at at s d
+    unfolding put_at
+    putting_all h = rw (p.is, le_antisymm p.within h, take-length, append_assoc)
 
 -- MOVED UP
 -- a step of the move: the element at i goes up, where all from suc i on have gone

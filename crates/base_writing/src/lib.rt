@@ -23,7 +23,7 @@ pub fn put_bytes(out: &mut [u8], text: &[u8]) -> Option<usize>
         clear(out);
         return None;
     }
-    out[..text.len()].copy_from_slice(text);
+    put_at(out, 0, text);
     Some(text.len())
 }
 
@@ -88,12 +88,14 @@ pub fn then_byte(out: &mut [u8], put: Option<usize>, byte: u8) -> Option<usize>
     then(out, put, |rest| put_byte(rest, byte))
 }
 
-// Writes `src` into `dst` at `at`. With the library's method in its place each caller would prove anew what is left of `dst`.
+// Writes `src` into `dst` at `at`. `copy_from_slice` was tried: the archive for C then needs `memmove` from outside.
 pub fn put_at<T: Copy>(dst: &mut [T], at: usize, src: &[T])
     requires { at + length src.now ≤ length dst.old }
     ensures { dst.new ≡ put_at at src.now dst.old }
 {
-    dst[at..at + src.len()].copy_from_slice(src);
+    for i in 0..src.len() {
+        dst[at + i] = src[i];
+    }
 }
 
 // Moves the elements from `from` up to `to` by `by` places. With the library's method in its place each caller would prove that anew.

@@ -1,15 +1,11 @@
--- `base_writing::put_at` meets its contract: a part that is written over is a write at its start. Assumes nothing.
-use Rattle.std.proofs.Common.{◌≡◌, ℕ, ◌+◌, ◌-◌, List, ◌++◌, length, take, drop, ap, ◌∙◌, arith}
-use Rattle.std.proofs.Math.Seq.{drop-drop}
-use borrow.Rule.Slice.PartMut.{put_mid}
-use Rattle.base_key.specs.Bytes.{put_at}
+use Rattle.base_key.proofs.Writes.{putting_none, putting_more, putting_all}
 use Rattle.base_writing.proofs.put_at.Goals as goal
 
-written_over : {A : Type 0} (at : ℕ) (t u l : List A) → u ≡ t → put_mid at (at + length t - at) l u ≡ put_at at t l
-unfolding put_at
-written_over at t u l e =
-    let n : at + length t - at ≡ length t = omega arith in
-    (λ z. take at l ++ (e z ++ drop (n z) (drop at l))) ∙ ap (λ (r : List _). take at l ++ (t ++ r)) (drop-drop (length t) at l)
+pub loop-i-init : goal.loop-i-init
+loop-i-init g c = putting_none _ _ _
+
+pub loop-i-preserved : goal.loop-i-preserved
+loop-i-preserved g c = putting_more c.loop-i.invariant c.requires c.loop-i-test.true _ c.index-src-i.is
 
 pub returns : goal.returns
-returns g c = written_over _ _ _ _ c.copy_from_slice.ensures.after
+returns g c = putting_all c.loop-i.invariant c.loop-i-test.false
