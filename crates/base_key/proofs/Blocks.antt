@@ -1,19 +1,19 @@
 -- Laws of the blocks of eight bytes in which keys are compared. Assumes nothing.
-use Prim.Native.Nat.{ℕ, suc, ◌+◌, ◌*◌, ◌≤◌, ◌<◌}
+use Prim.Native.Nat.{ℕ, suc, ◌+◌, ◌-◌, ◌*◌, ◌%◌, ◌≤◌, ◌<◌}
 use native.Mathlib.Numerals.{add-one}
 use mathlib.Core.Path.{◌≡◌, refl, sym, ap, ◌∙◌}
 use mathlib.Core.List.{List, ◌∷◌, ◌++◌}
 use mathlib.Core.Bool.{Bool, true, false}
 use lib.Dec.{eqb}
-use lib.ListN.{length, drop, get_or, take-append-drop}
-use lib.Seq.{drop-cons, drop-drop}
+use lib.ListN.{length, take, drop, get_or, take-append-drop}
+use lib.Seq.{drop-cons, drop-drop, drop-length}
 use borrow.Author.Tests.{eq-eqb, ne_eqb}
 use native.Mathlib.Omega.{arith}
 use Rattle.base_key.specs.Bytes.{same_bytes, part}
 use Rattle.base_key.specs.Blocks.{Alike, FourAt, EightAt, same_block}
-use Rattle.base_key.specs.Keys.{compare_keys}
+use Rattle.base_key.specs.Keys.{compare_keys, same_key}
 use Rattle.base_key.proofs.Bytes.{neither}
-use Rattle.base_key.proofs.Keys.{compare_front, same_is, same_refl, same_bytes_lem}
+use Rattle.base_key.proofs.Keys.{compare_front, same_is, same_refl, same_bytes_lem, same_list, other_list}
 
 -- THE BYTES OF A BLOCK
 part_next : (l : List ℕ) (i j n : ℕ) → i + 1 ≡ j → i < length l → part i (suc n) l ≡ get_or l i 0 ∷ part j n l
@@ -92,3 +92,47 @@ module _ {a b : List ℕ} {i : ℕ} where
             (al.rest ∙ (λ z. compare_keys (block_first a i z) ((block_first b i ∙ ap (λ (m : List ℕ). m ++ drop (i + 8) b) (sym (block_is a b i e t))) z))
             ∙ compare_front (part i 8 a) (drop (i + 8) a) (drop (i + 8) b));
       }
+
+-- A WALK OVER THE WHOLE BLOCKS AT THE END OF TWO KEYS, from the last one on: from i on they are the same
+pub record BlocksSame (a b : List ℕ) (i : ℕ) : Type 0 where
+  pub inside : i ≤ length a
+  pub whole : i % 8 ≡ length a % 8
+  pub rest : drop i a ≡ drop i b
+
+module _ {a b : List ℕ} where
+  pub blocks_none : length a ≡ length b → BlocksSame a b (length a)
+  blocks_none e = record { inside = omega arith; whole = refl; rest = drop-length a ∙ sym (ap (λ (n : ℕ). drop n b) e ∙ drop-length b) }
+
+  module _ {i : ℕ} (s : BlocksSame a b i) (j : ℕ) {r : Bool} (is : r ≡ same_block a b j) (n : j + 8 ≡ i) where
+    -- the block before is the same
+    pub blocks_more : r ≡ true → BlocksSame a b j
+    blocks_more t =
+        let behind : drop (j + 8) a ≡ drop (j + 8) b = ap (λ (x : ℕ). drop x a) n ∙ s.rest ∙ ap (λ (x : ℕ). drop x b) (sym n) in
+        record {
+          inside = omega (arith, s.inside);
+          whole = omega (arith, s.whole);
+          rest = block_first a j ∙ (λ z. block_is a b j is t z ++ behind z) ∙ sym (block_first b j);
+        }
+
+    pub blocks_other : r ≡ false → r ≡ same_key (drop (length a % 8) a) (drop (length a % 8) b)
+    unfolding same_block
+    blocks_other f = f ∙ other_list _ _ differ
+      where
+        start : ℕ
+        start = length a % 8
+
+        from : start + (j - start) ≡ j
+        from = omega (arith, s.whole)
+
+        there : (l : List ℕ) → drop (j - start) (drop start l) ≡ drop j l
+        there l = drop-drop (j - start) start l ∙ ap (λ (k : ℕ). drop k l) from
+
+        differ : drop start a ≡ drop start b → ⊥
+        differ e =
+            let p : part j 8 a ≡ part j 8 b = ap (take 8) (sym (there a) ∙ ap (drop (j - start)) e ∙ there b) in
+            neither (same_bytes_lem _ _ ∙ sym (same_list p)) (sym is ∙ f)
+
+  pub blocks_all : {i : ℕ} → BlocksSame a b i → i < 8 → true ≡ same_key (drop (length a % 8) a) (drop (length a % 8) b)
+  blocks_all {i} s h =
+      let e : length a % 8 ≡ i = omega (arith, s.whole) in
+      same_list (ap (λ (x : ℕ). drop x a) e ∙ s.rest ∙ ap (λ (x : ℕ). drop x b) (sym e))

@@ -3,19 +3,17 @@ use mathlib.Core.Path.{◌≡◌, refl, sym, ap, ◌∙◌, subst}
 use mathlib.Core.Logic.{◌⊎◌, inl, inr, ⊎_elim}
 use mathlib.Core.Bool.{Bool, true, false, false≢true}
 use mathlib.Core.List.{List, [], ◌∷◌, ◌++◌}
-use Prim.Native.Nat.{ℕ, ◌+◌, ◌-◌, ◌≤◌, ◌<◌}
+use Prim.Native.Nat.{ℕ, suc, ◌+◌, ◌-◌, ◌≤◌, ◌<◌}
 use native.Mathlib.Nat.{le_of_lt}
 use native.Mathlib.Numerals.{add-one}
-use lib.ListN.{length, drop, get_or, drop_of_length-le}
-use lib.Seq.{drop-cons}
+use lib.ListN.{length, take, drop, get_or, drop_of_length-le, take-append-drop}
+use lib.Seq.{drop-cons, get_or-take, length-take-le}
 use lib.Dec.{ltb, eqb}
 use native.Mathlib.Omega.{arith}
 use borrow.Author.Tests.{lt-ltb, le-ltb, ltb-true, ltb-false, eq-eqb, ne_eqb}
-use Rattle.std.proofs.Common.{Option, Some, None, Bor, Decides, nat_cmp, min}
+use Rattle.std.proofs.Common.{Decides, nat_cmp, min}
 use Rattle.std.proofs.lemmas.Bool.Decides.{same_from_decides}
 use Rattle.std.proofs.lemmas.Slice.Eq.{bytes_eq-Decides}
-use Rattle.std.specs.List.{slice_get}
-use Rattle.std.specs.Option.{option_copied, option_eq}
 use Rattle.std.specs.Str.{bytes_eq}
 use Rattle.base_key.specs.Bytes.{◌and◌, same_bytes}
 use Rattle.base_key.specs.Blocks.{Alike}
@@ -198,22 +196,68 @@ other_list a b h = go (same_key a b) refl
 pub differ_by_length : (a b : List ℕ) → (length a ≡ length b → ⊥) → false ≡ same_key a b
 differ_by_length a b h = other_list a b (λ (e : a ≡ b). h (ap length e))
 
+-- two parts of each: the ends from m on, and what stands in front of them
+module _ (a b : List ℕ) (m : ℕ) {t : Bool} (is : t ≡ same_key (drop m a) (drop m b)) where
+  pub differ_by_end : t ≡ false → false ≡ same_key a b
+  differ_by_end f = other_list a b (λ (e : a ≡ b). neither (sym (same_list (ap (drop m) e))) (sym is ∙ f))
+
+  pub same_by_front : {r : Bool} → t ≡ true → r ≡ same_key (take m a) (take m b) → r ≡ same_key a b
+  same_by_front {r} e i = i ∙ go (same_key (take m a) (take m b)) refl
+    where
+      behind : drop m a ≡ drop m b
+      behind = same_is _ _ (sym is ∙ e)
+
+      go : (v : Bool) → same_key (take m a) (take m b) ≡ v → v ≡ same_key a b
+      go true q = same_list (sym (take-append-drop m a) ∙ (λ z. same_is _ _ q z ++ behind z) ∙ take-append-drop m b)
+      go false q = other_list a b (λ (f : a ≡ b). neither (sym (same_list (ap (take m) f))) q)
+
+-- A WALK OVER THE FIRST n BYTES OF TWO KEYS, from the last of them on: from i on they are the same
+pub record FrontSame (a b : List ℕ) (n i : ℕ) : Type 0 where
+  pub inside : i ≤ n
+  pub rest : drop i (take n a) ≡ drop i (take n b)
+
+module _ {a b : List ℕ} {n : ℕ} (h : n ≤ length a) (k : n ≤ length b) where
+  pub front_none : FrontSame a b n n
+  front_none = record {
+    inside = omega arith;
+    rest =
+        drop_of_length-le (take n a) {i = n} (omega (arith, length-take-le n a h))
+        ∙ sym (drop_of_length-le (take n b) {i = n} (omega (arith, length-take-le n b k)));
+  }
+
+  module _ {i : ℕ} (s : FrontSame a b n i) (p : 0 < i) where
+    -- the byte before is the same
+    pub front_more : get_or a (i - 1) 0 ≡ get_or b (i - 1) 0 → FrontSame a b n (i - 1)
+    front_more e =
+        let j = i - 1 in
+        let l : j < n = omega (arith, s.inside) in
+        let n' : suc j ≡ i = omega arith in
+        let at : get_or (take n a) j 0 ≡ get_or (take n b) j 0 = get_or-take n a j 0 l ∙ e ∙ sym (get_or-take n b j 0 l) in
+        let behind : drop (suc j) (take n a) ≡ drop (suc j) (take n b) = ap (λ (x : ℕ). drop x (take n a)) n' ∙ s.rest ∙ ap (λ (x : ℕ). drop x (take n b)) (sym n') in
+        record {
+          inside = omega (arith, s.inside);
+          rest =
+              drop-cons (take n a) j 0 (omega (arith, length-take-le n a h)) ∙ (λ z. at z ∷ behind z)
+              ∙ sym (drop-cons (take n b) j 0 (omega (arith, length-take-le n b k)));
+        }
+
+    pub front_other : (get_or a (i - 1) 0 ≡ get_or b (i - 1) 0 → ⊥) → false ≡ same_key (take n a) (take n b)
+    front_other ne =
+        let l : i - 1 < n = omega (arith, s.inside) in
+        other_list (take n a) (take n b)
+        (λ e. ne (sym (get_or-take n a (i - 1) 0 l) ∙ ap (λ (x : List ℕ). get_or x (i - 1) 0) e ∙ get_or-take n b (i - 1) 0 l))
+
+  pub front_all : {i : ℕ} → FrontSame a b n i → i ≤ 0 → true ≡ same_key (take n a) (take n b)
+  front_all {i} s z =
+      let e : 0 ≡ i = omega arith in
+      same_list (ap (λ (x : ℕ). drop x (take n a)) e ∙ s.rest ∙ ap (λ (x : ℕ). drop x (take n b)) (sym e))
+
 -- `==` on two keys
 pub same_key-Decides : (a b : List ℕ) → Decides (same_key a b) (a ≡ b)
 same_key-Decides a b = (same_is a b, λ (e : a ≡ b). sym (same_list e))
 
 pub equal_bytes : (a b : List ℕ) → bytes_eq a b ≡ same_key a b
 equal_bytes a b = same_from_decides _ _ (bytes_eq-Decides a b) (same_key-Decides a b)
-
--- keys whose last bytes differ are not one
-pub differ_by_last : (a b : List ℕ) (x y : Option (Bor ℕ)) {r : Bool} → option_copied x ≡ slice_get a (length a - 1) → option_copied y ≡ slice_get b (length b - 1) → r ≡ option_eq (λ p q. eqb p.now q.now) x y → r ≡ false → r ≡ same_key a b
-differ_by_last a b x y d e is f = f ∙ other_list a b (λ (g : a ≡ b). neither (go x y (d ∙ ap (λ (l : List ℕ). slice_get l (length l - 1)) g ∙ sym e)) (sym is ∙ f))
-  where
-    go : (x y : Option (Bor ℕ)) → option_copied x ≡ option_copied y → option_eq (λ p q. eqb p.now q.now) x y ≡ true
-    go None None h = refl
-    go None (Some q) h = cc
-    go (Some p) None h = cc
-    go (Some p) (Some q) h = eq-eqb p.now q.now cc
 
 -- THE ORDER OF VERSIONS
 turn_then : (o p : Ordering) → then_by (turned o) (turned p) ≡ turned (then_by o p)
@@ -292,12 +336,12 @@ module _ {a b : List ℕ} {i : ℕ} (al : Alike a b i) where
       (three (get_or a i 0) (get_or b i 0))
 
   -- only the first has a byte at i
-  longer : i < length a → length b ≤ i → Greater ≡ compare_keys a b
+  pub longer : i < length a → length b ≤ i → Greater ≡ compare_keys a b
   unfolding compare_keys
   longer h k = rw (al.rest, drop-cons a i 0, drop_of_length-le b {i = i} k)
 
   -- the first ends at i
-  shorter : length a ≤ i → i < length b → Less ≡ compare_keys a b
+  pub shorter : length a ≤ i → i < length b → Less ≡ compare_keys a b
   unfolding compare_keys
   shorter h k = rw (al.rest, drop_of_length-le a {i = i} h, drop-cons b i 0)
 

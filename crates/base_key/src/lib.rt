@@ -70,10 +70,40 @@ pub fn compare_versions(a: &[u8], a_seq: u64, b: &[u8], b_seq: u64) -> Ordering
     }
 }
 
-// Are the two one key? Neighbours in the order of keys differ late, so their last bytes are looked at first.
-// `a == b` alone was tried: it takes 28 instructions more for keys of 20 bytes that differ in the last one, and 11 fewer for equal ones.
+// Are the whole blocks of eight bytes at the end the same? From the last one on: neighbours in the order of keys differ late.
+// A `for` over the number of blocks was tried: it takes four instructions more for each pair of keys.
+fn same_blocks(a: &[u8], b: &[u8]) -> bool
+    requires { length a.now ≡ length b.now }
+    ensures { result ≡ same_key (drop (length a.now % 8) a.now) (drop (length a.now % 8) b.now) }
+{
+    let mut end = a.len();
+    while let Some(start) = end.checked_sub(8) {
+        if !same_block(a, b, start) {
+            return false;
+        }
+        end = start;
+    }
+    true
+}
+
+// Are the first n bytes the same? From the last of them on.
+fn same_front(a: &[u8], b: &[u8], n: usize) -> bool
+    requires n_in_bounds { n ≤ length a.now }
+    requires n_in_bounds_2 { n ≤ length b.now }
+    ensures { result ≡ same_key (take n a.now) (take n b.now) }
+{
+    for i in (0..n).rev() {
+        if a[i] != b[i] {
+            return false;
+        }
+    }
+    true
+}
+
+// Are the two one key? Their lengths are looked at first, then their ends.
+// `a == b` was tried: it goes through the whole front that two neighbours share.
 pub fn same(a: &[u8], b: &[u8]) -> bool
     ensures { result ≡ same_key a.now b.now }
 {
-    a.last() == b.last() && a == b
+    a.len() == b.len() && same_blocks(a, b) && same_front(a, b, a.len() % 8)
 }
