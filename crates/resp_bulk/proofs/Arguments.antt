@@ -11,7 +11,8 @@ use lib.ListN.{length, take, drop, get_or, length-drop}
 use lib.Seq.{drop-drop}
 use Rattle.std.proofs.lemmas.List.{take_rest, length-take}
 use borrow.Author.Tests.{eq-eqb, ne_eqb}
-use Rattle.base_key.specs.Bytes.{Bytes}
+use Rattle.base_key.specs.Bytes.{Bytes, ◌and◌}
+use Rattle.base_key.proofs.Bytes.{and-false}
 use Rattle.resp_spec.specs.declared.Header.TheVariants.{Bulk}
 use Rattle.resp_spec.specs.declared.Fault.{Fault}
 use Rattle.resp_spec.specs.declared.Fault.TheVariants.{LineTooLong, NoDollar, NoLineEnd}
@@ -23,19 +24,35 @@ use Rattle.base_writing.proofs.Lent.{rest, rest_is}
 use Rattle.resp_spec.specs.Request.{span, line, line_of, header_of, Reading, waits, faulty, with_span, begins_cr_lf, bulk_body, argument_line}
 use Rattle.resp_spec.specs.Steps.{LineIs, line_of_answer, Next, Inside}
 use Rattle.resp_spec.proofs.Arguments.{body_waits, body_ends, body_other}
-use Rattle.resp_bulk.specs.Arguments.{ArgumentIs, argument_at, argument_of_line, argument_of_size, LineFrom}
+use Rattle.resp_bulk.specs.Arguments.{begins_with, ArgumentIs, argument_at, argument_of_line, argument_of_size, LineFrom}
 use Rattle.std.specs.Prelude.{Result, Ok, Err}
 
--- CR LF
-starts_crlf : (s : Bytes) → starts_with eqb s (13 ∷ 10 ∷ []) ≡ begins_cr_lf s
-unfolding begins_cr_lf
-starts_crlf [] = refl
-starts_crlf (b ∷ []) = go (eqb 13 b)
+-- A FIXED TEXT
+both_same : (a b : Bool) → (a && b) ≡ (a and b)
+unfolding ◌and◌
+both_same true b = refl
+both_same false b = refl
+
+same_test : (b t : ℕ) → eqb t b ≡ eqb b t
+same_test b t = grind (arith, nat_tests)
+
+-- what the library's `starts_with` says
+pub starts_begins : (s text : Bytes) → starts_with eqb s text ≡ begins_with s text
+unfolding begins_with
+starts_begins s [] = refl
+starts_begins [] (t ∷ text) = refl
+starts_begins (b ∷ s) (t ∷ text) = (λ z. same_test b t z && starts_begins s text z) ∙ both_same (eqb b t) (begins_with s text)
+
+begins_crlf : (s : Bytes) → begins_with s (13 ∷ 10 ∷ []) ≡ begins_cr_lf s
+unfolding begins_with begins_cr_lf ◌and◌
+begins_crlf [] = refl
+begins_crlf (b ∷ []) = and-false (eqb b 13)
+begins_crlf (b ∷ c ∷ s) = go (eqb b 13) (eqb c 10)
   where
-    go : (t : Bool) → (t && false) ≡ false
-    go true = refl
-    go false = refl
-starts_crlf (b ∷ c ∷ s) = grind (arith, nat_tests)
+    go : (t u : Bool) → (t and u and true) ≡ (t && u)
+    go true true = refl
+    go true false = refl
+    go false u = refl
 
 -- THE BYTES OF AN ARGUMENT
 -- an answer that is no part
@@ -54,12 +71,12 @@ module _ (input : Bytes) (at n : ℕ) (w : Inside input at) where
   unfolding argument_of_size
   body_cut h = is_unread (λ next. body_waits next at n (drop at input) (simp length-drop (omega arith)))
 
-  module _ (two : 2 ≤ length input - at) (enough : n ≤ length input - at - 2) {b : Bool} (is : b ≡ starts_with eqb (rest (at + n) input) (13 ∷ 10 ∷ [])) where
+  module _ (two : 2 ≤ length input - at) (enough : n ≤ length input - at - 2) {b : Bool} (is : b ≡ begins_with (rest (at + n) input) (13 ∷ 10 ∷ [])) where
     long : n + 2 ≤ length (drop at input)
     long = simp length-drop (omega arith)
 
     tested : begins_cr_lf (drop n (drop at input)) ≡ b
-    tested = sym (starts_crlf (drop n (drop at input))) ∙ ap (λ (l : Bytes). starts_with eqb l (13 ∷ 10 ∷ [])) (drop-drop n at input ∙ sym (rest_is (at + n) input)) ∙ sym is
+    tested = sym (begins_crlf (drop n (drop at input))) ∙ ap (λ (l : Bytes). begins_with l (13 ∷ 10 ∷ [])) (drop-drop n at input ∙ sym (rest_is (at + n) input)) ∙ sym is
 
     pub body_part : b ≡ true → ArgumentIs (argument_of_size at n input) input (Part at n)
     unfolding argument_of_size

@@ -1,8 +1,9 @@
 // One argument of an array: a line with its length, its bytes, and CR LF.
 #![tactic(auto)]
 
+ghost use Rattle.std.specs.Prelude.{◌≡◌};
 ghost use Rattle.resp_spec.specs.Steps.{Inside};
-ghost use Rattle.resp_bulk.specs.Arguments.{ArgumentIs, argument_at, argument_of_line, argument_of_size, LineFrom};
+ghost use Rattle.resp_bulk.specs.Arguments.{begins_with, ArgumentIs, argument_at, argument_of_line, argument_of_size, LineFrom};
 
 use resp_spec::line::Line;
 use resp_spec::{Fault, Header, Span, line};
@@ -13,6 +14,13 @@ pub enum Argument {
     Unread,
     Faulty(Fault),
     Part(usize, usize),
+}
+
+// Whether `text` stands at the front of `s`.
+fn begins_with(s: &[u8], text: &[u8]) -> bool
+    ensures { result ≡ begins_with s.now text.now }
+{
+    s.starts_with(text)
 }
 
 // Reads the n bytes of an argument, from `at` on, and the CR LF behind them. `Inside` is about the place that is given, another at each call: no struct
@@ -29,7 +37,7 @@ pub fn read_body(input: &[u8], at: usize, n: usize) -> Argument
         return Argument::Unread;
     }
     let end = at + n;
-    if input[end..].starts_with(b"\r\n") {
+    if begins_with(&input[end..], b"\r\n") {
         return Argument::Part(at, n);
     }
     Argument::Faulty(Fault::NoLineEnd)

@@ -8,8 +8,8 @@ returns-then-left-lt2 c = search body_short
 pub returns-then-left-n : goal.returns-then-left-n
 returns-then-left-n c = search body_cut
 
-pub returns-then-starts_with : goal.returns-then-starts_with
-returns-then-starts_with c = search body_part
+pub returns-then-begins_with : goal.returns-then-begins_with
+returns-then-begins_with c = search body_part
 
 pub returns : goal.returns
 returns c = search body_no_end
