@@ -9,18 +9,18 @@ use store_memtable::store::Store;
 
 // A command's own writes over the store at `seq`. They are lent apart, each for a lifetime of its own.
 #[derive(Clone, Copy)]
-pub struct Reader<'w, 's> {
-    pub writes: OwnWrites<'w>,
+pub struct Reader<'o, 'd, 's> {
+    pub writes: OwnWrites<'o, 'd>,
     pub store: Store<'s>,
     pub seq: u64,
 }
 
-impl<'w, 's> Reader<'w, 's> {
+impl<'o, 'd, 's> Reader<'o, 'd, 's> {
     ghost use Rattle.store_memtable.specs.Reading.{versions_of};
     ghost use Rattle.command_lookup.specs.Reads.{read_through};
 
     // Reads a store at its last sequence, through no writes.
-    pub fn last(store: &Store<'s>) -> Reader<'w, 's>
+    pub fn last(store: &Store<'s>) -> Reader<'o, 'd, 's>
         ensures { read_through result ≡ read_at (last_word store.now.words.now) (versions_of store.now) }
     {
         let writes = OwnWrites {
@@ -36,8 +36,8 @@ impl<'w, 's> Reader<'w, 's> {
     }
 }
 
-// At one lifetime for both, so that what is read lasts as long as what was lent.
-impl<'a> Reader<'a, 'a> {
+// At one lifetime for the data of the writes and the store, so that what is read lasts as long as both.
+impl<'o, 'a> Reader<'o, 'a, 'a> {
     ghost use Rattle.command_lookup.specs.Reads.{read_through};
 
     // The value that a read of `name` gives.

@@ -9,16 +9,16 @@ use command_spec::request::Request;
 
 // A request that is not empty, and the row of its name, argument 0.
 #[derive(Clone, Copy)]
-pub struct NamedRequest<'a> {
-    pub request: Request<'a>,
+pub struct NamedRequest<'i, 'p> {
+    pub request: Request<'i, 'p>,
     pub row: Row,
     pub ghost not_empty: { 1 ≤ request.count },
     pub ghost looked: { Looked (name_word (arguments_of request)) row },
 }
 
-impl<'a> NamedRequest<'a> {
+impl<'i, 'p> NamedRequest<'i, 'p> {
     // Looks the name up.
-    pub fn new(request: Request<'a>) -> NamedRequest<'a>
+    pub fn new(request: Request<'i, 'p>) -> NamedRequest<'i, 'p>
         requires { 1 ≤ request.count }
         ensures { result.request ≡ request.entry }
     {
@@ -27,7 +27,7 @@ impl<'a> NamedRequest<'a> {
     }
 
     // The name as it was sent.
-    pub fn name(&self) -> &'a [u8]
+    pub fn name(&self) -> &'i [u8]
         ensures { result.now ≡ name_word (arguments_of self.now.request) }
     {
         self.request.argument(0)

@@ -11,16 +11,16 @@ use group_spec::parts::{Parts, Write};
 use std::cmp::Ordering;
 use store_memtable::search;
 
-// The first `rows` rows of `own`, parts of `data`.
+// The first `rows` rows of `own`, parts of `data`. A value lasts as long as `data`.
 #[derive(Clone, Copy)]
-pub struct OwnWrites<'a> {
-    pub own: &'a [u64],
+pub struct OwnWrites<'o, 'd> {
+    pub own: &'o [u64],
     pub rows: usize,
-    pub data: &'a [u8],
+    pub data: &'d [u8],
     pub ghost own_writes: { Own own.now «data».now rows } by { Prim.hlevel (props, Ascending-prop) },
 }
 
-impl<'a> OwnWrites<'a> {
+impl<'o, 'd> OwnWrites<'o, 'd> {
     // Does the key of row i come before `name`?
     #[tactic(auto, unfolding(base_key::specs::Keys::key_below, group_spec::specs::Members::write_at))]
     fn comes_before(&self, i: usize, name: &[u8]) -> bool
@@ -64,7 +64,7 @@ impl<'a> OwnWrites<'a> {
     }
 
     // The value that row j gives: none of a tombstone.
-    pub fn written(&self, j: usize) -> Option<&'a [u8]>
+    pub fn written(&self, j: usize) -> Option<&'d [u8]>
         requires { j < self.now.rows }
         ensures { option_copied result ≡ (write_at self.now.own.now self.now.«data».now j).1 }
     {

@@ -9,22 +9,22 @@ use store_memtable::read;
 
 // A write: its key, and its value where it is live, else a tombstone.
 #[derive(Clone, Copy)]
-pub struct Write<'a> {
-    pub name: &'a [u8],
-    pub value: &'a [u8],
+pub struct Write<'d> {
+    pub name: &'d [u8],
+    pub value: &'d [u8],
     pub live: bool,
 }
 
-// A lent table of parts, over the bytes that they lie in.
+// A lent table of parts, over the bytes that they lie in. A part lasts as long as the bytes.
 #[derive(Clone, Copy)]
-pub struct Parts<'a> {
-    pub table: &'a [u64],
-    pub data: &'a [u8],
+pub struct Parts<'t, 'd> {
+    pub table: &'t [u64],
+    pub data: &'d [u8],
 }
 
-impl<'a> Parts<'a> {
+impl<'t, 'd> Parts<'t, 'd> {
     // The key whose place stands at `at` of the table. `KeyIn` is about the place that is given, another at each call: no struct keeps it.
-    pub fn key(&self, at: usize) -> &'a [u8]
+    pub fn key(&self, at: usize) -> &'d [u8]
         requires { KeyIn self.now.table.now self.now.«data».now at }
         ensures { result.now ≡ key_part self.now.table.now self.now.«data».now at }
     {
@@ -34,7 +34,7 @@ impl<'a> Parts<'a> {
     }
 
     // The value that starts at `start` and has this value word, one more than its length: no bytes of a tombstone.
-    pub fn value(&self, start: usize, word: usize) -> &'a [u8]
+    pub fn value(&self, start: usize, word: usize) -> &'d [u8]
         requires { value_inside start word self.now.«data».now ≡ true }
         ensures { result.now ≡ part start (word - 1) self.now.«data».now }
     {
@@ -46,7 +46,7 @@ impl<'a> Parts<'a> {
     }
 
     // Write j. `WriteIn` is about the write that is given, as `KeyIn` is.
-    pub fn write_at(&self, j: usize) -> Write<'a>
+    pub fn write_at(&self, j: usize) -> Write<'d>
         requires { WriteIn self.now.table.now self.now.«data».now j }
         ensures { write_at self.now.table.now self.now.«data».now j ≡ (result.name.now, value_if result.live result.value.now) }
     {
