@@ -21,14 +21,14 @@ use Rattle.group_spec.specs.declared.Verdict.{Verdict}
 use Rattle.group_spec.specs.declared.Verdict.TheVariants.{Accepted, Conflict, NoRoom, NoSequence, NotTaken}
 use Rattle.group_spec.specs.Group.{plain, conflicts, has_room, has_sequences, judge, verdict_alone, verdict_byte}
 use Rattle.group_spec.proofs.SizeLaws.{left_rest, rest_within, short_above}
-use Rattle.command_spec.specs.Numbers.{AnswerNumbers, error_number, number_of}
+use Rattle.command_spec.specs.Numbers.{AnswerNumbers, error_number}
 use Rattle.command_spec.specs.declared.CallError.{CallError}
 use Rattle.command_spec.specs.declared.CallError.TheVariants.{NoSession, TooManyArguments, ReplyTooLong, QueueFull, WatchFull, GroupUnfit, MemoryUnfit}
 use Rattle.command_spec.specs.declared.CallError.TheVariants as error
 use Rattle.command_spec.specs.Command.{Effect}
 use Rattle.command_spec.specs.Session.{Session, committed}
 use Rattle.command_spec.specs.Finish.{silent, finish, finish_by, Says, StoreLeft}
-use Rattle.command_room.specs.Writes.{RoomForAll, verdict_left, verdict_answer}
+use Rattle.command_room.specs.Writes.{RoomForAll, error_by, verdict_left, verdict_answer}
 use Rattle.command_answer.specs.Answers.{refusal, put_answer}
 use Rattle.command_room.specs.Served.{buffer_after, effect_served, Runs}
 use Rattle.command_answer.proofs.Finish.{Cleared, finish_wrote, says_wrote, finish_full, full_cleared, says_number}
@@ -167,7 +167,7 @@ answer_accepted v put used r-is zero = go v (ap (λ (x : AnswerNumbers). x.numbe
     go NotTaken z = absurd (omega arith)
 
 -- THE ANSWER by what the look at the room gave
-error_some : (e : CallError) → error_number e ≡ 0 → ⊥
+pub error_some : (e : CallError) → error_number e ≡ 0 → ⊥
 error_some NoSession z = absurd (omega arith)
 error_some TooManyArguments z = absurd (omega arith)
 error_some ReplyTooLong z = absurd (omega arith)
@@ -178,16 +178,16 @@ error_some error.NoSequence z = absurd (omega arith)
 error_some GroupUnfit z = absurd (omega arith)
 error_some MemoryUnfit z = absurd (omega arith)
 
-module _ {A : Type 0} {checked : Result A CallError} {e : CallError} (is : checked ≡ Err e) (v : Verdict) (n-is : number_of checked ≡ verdict_byte v) where
-  byte_is : error_number e ≡ verdict_byte v
-  byte_is = sym (ap number_of is) ∙ n-is
+module _ {A E : Type 0} (number : E → ℕ) {checked : Result A E} {e : E} (some : number e ≡ 0 → ⊥) (is : checked ≡ Err e) (v : Verdict) (n-is : error_by number checked ≡ verdict_byte v) where
+  byte_is : number e ≡ verdict_byte v
+  byte_is = sym (ap (error_by number) is) ∙ n-is
 
-  pub answer_refused : (put : Option ℕ) (used : ℕ) → refusal (error_number e) ≡ verdict_answer v put used
+  pub answer_refused : (put : Option ℕ) (used : ℕ) → refusal (number e) ≡ verdict_answer v put used
   unfolding verdict_answer
   answer_refused put used = go v byte_is
     where
-      go : (x : Verdict) → error_number e ≡ verdict_byte x → refusal (error_number e) ≡ verdict_answer x put used
-      go Accepted b = absurd (error_some e b)
+      go : (x : Verdict) → number e ≡ verdict_byte x → refusal (number e) ≡ verdict_answer x put used
+      go Accepted b = absurd (some b)
       go Conflict b = ap refusal b
       go NoRoom b = ap refusal b
       go NoSequence b = ap refusal b
@@ -197,16 +197,16 @@ module _ {A : Type 0} {checked : Result A CallError} {e : CallError} (is : check
   unfolding buffer_after
   buffer_refused mid o_is = o_is ∙ go v byte_is
     where
-      go : (x : Verdict) → error_number e ≡ verdict_byte x → replicate (length mid) 0 ≡ buffer_after x mid
-      go Accepted b = absurd (error_some e b)
+      go : (x : Verdict) → number e ≡ verdict_byte x → replicate (length mid) 0 ≡ buffer_after x mid
+      go Accepted b = absurd (some b)
       go Conflict b = refl
       go NoRoom b = refl
       go NoSequence b = refl
       go NotTaken b = refl
 
-module _ {A : Type 0} {checked : Result A CallError} {a : A} (is : checked ≡ Ok a) (v : Verdict) (n-is : number_of checked ≡ verdict_byte v) where
+module _ {A E : Type 0} (number : E → ℕ) {checked : Result A E} {a : A} (is : checked ≡ Ok a) (v : Verdict) (n-is : error_by number checked ≡ verdict_byte v) where
   accepted_is : v ≡ Accepted
-  accepted_is = go v (sym n-is ∙ ap number_of is)
+  accepted_is = go v (sym n-is ∙ ap (error_by number) is)
     where
       go : (x : Verdict) → verdict_byte x ≡ 0 → x ≡ Accepted
       go Accepted z = refl

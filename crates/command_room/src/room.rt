@@ -1,5 +1,5 @@
 // Room for the writes of one command, and the answer that the verdict and the reply make.
-ghost use Rattle.std.specs.Prelude.{◌≡◌, ◌-◌, ◌*◌, ◌≤◌, length};
+ghost use Rattle.std.specs.Prelude.{◌≡◌, ◌-◌, ◌*◌, ◌≤◌, Ok, Err, IfErr, OnErr, OnOk, IfSome, IfNone, IsErrAnd, length, replicate};
 ghost use Rattle.base_key.specs.Bytes.{total};
 ghost use Rattle.store_memtable.specs.Layout.{used_word, most_bytes_word};
 ghost use Rattle.store_memtable.specs.Rows.{bytes_left};
@@ -53,7 +53,26 @@ pub fn check_room(words: &[u64], writes: usize, left: Option<usize>) -> Result<(
     Ok(())
 }
 
-// The answer after that, with the reply that was put: an error of the room comes before a reply that is too long, and clears the buffer.
+// The answer after a check, with the reply that was put: its error comes before a reply that is too long, and clears the buffer.
+pub fn checked_answer<E: From<CallError>>(
+    out: &mut [u8],
+    checked: Result<(), E>,
+    put: Option<usize>,
+    used: usize,
+) -> Result<Answer, E>
+    ensures refused { IfErr checked (λ error. result ≡ Err error) }
+    ensures cleared { OnErr checked (out.new ≡ replicate (length out.old) 0) }
+    ensures answered { OnOk checked (IfSome put (λ reply. result ≡ Ok (record { used = used; reply = reply }))) }
+    ensures too_long { OnOk checked (IfNone put (IsErrAnd result (λ error. E.from_gives CallError.ReplyTooLong error))) }
+    ensures kept { OnOk checked (out.new ≡ out.old) }
+{
+    if let Err(error) = checked {
+        return command_answer::refuse(out, error);
+    }
+    Ok(command_answer::put_answer(put, used)?)
+}
+
+// The answer after the look at the room.
 pub fn room_answer(
     out: &mut [u8],
     checked: Result<(), CallError>,
@@ -62,10 +81,8 @@ pub fn room_answer(
 ) -> Result<Answer, CallError>
     ensures value { (v : Verdict) → number_of checked ≡ verdict_byte v → answer_numbers result ≡ verdict_answer v put used }
     ensures out_after { (v : Verdict) → number_of checked ≡ verdict_byte v → out.new ≡ buffer_after v out.old }
+    ensures refused { IfErr checked (λ error. result ≡ Err error) }
+    ensures cleared { OnErr checked (out.new ≡ replicate (length out.old) 0) }
 {
-    if let Err(error) = checked {
-        base_writing::clear(out);
-        return Err(error);
-    }
-    command_answer::put_answer(put, used)
+    checked_answer(out, checked, put, used)
 }

@@ -1,9 +1,13 @@
 -- `command_room::room::room_answer` meets its contract. Assumes nothing.
-use Rattle.command_room.proofs.Served.{answer_refused, buffer_refused, answer_put, buffer_put}
+use mathlib.Core.Path.{◌≡◌, ap}
+use Rattle.command_spec.specs.Numbers.{error_number}
+use Rattle.command_spec.specs.declared.CallError.TheVariants.{ReplyTooLong}
+use Rattle.command_room.proofs.Checked.{buffer_left, numbers_answered}
+use Rattle.command_room.proofs.Served.{error_some}
 use Rattle.command_room.proofs.room.room_answer.Goals as goal
 
-pub returns-in-Err : goal.returns-in-Err
-returns-in-Err c = record { value = λ v n. answer_refused c.in-Err.is v n _ _; out_after = λ v n. buffer_refused c.in-Err.is v n _ c.clear.ensures }
+pub returns-clause-value : goal.returns-clause-value
+returns-clause-value c = numbers_answered error_number (λ e. e ≡ ReplyTooLong) (λ e. ap error_number) _ (λ e _. error_some e) _ _ _ c.checked_answer.ensures.refused c.checked_answer.ensures.answered c.checked_answer.ensures.too_long
 
-pub returns : goal.returns
-returns c = record { value = λ v n. answer_put c.in_default.is v n _ _ c.put_answer.ensures; out_after = λ v n. buffer_put c.in_default.is v n _ }
+pub returns-clause-out_after : goal.returns-clause-out_after
+returns-clause-out_after c = buffer_left error_number (λ e. e ≡ ReplyTooLong) (λ e. ap error_number) _ (λ e _. error_some e) c.args.put c.args.used _ _ c.checked_answer.ensures.cleared c.checked_answer.ensures.kept
