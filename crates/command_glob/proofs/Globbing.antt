@@ -259,6 +259,15 @@ other_byte : (b : ℕ) (t : List Token) (c : ℕ) (s : Bytes) → (c ≡ b → �
 unfolding matches
 other_byte b t c s ne = rw (matches, ne_eqb c b ne)
 
+pub byte_passed_more : {s : Bytes} {b from i : ℕ} → BytePassed s b from i → i < length s → (get_or s i 0 ≡ b → ⊥) → BytePassed s b from (i + 1)
+byte_passed_more {s} {b} {from} {i} k h ne = record {
+  forward = omega (arith, k.forward);
+  inside = omega arith;
+  rest = λ t.
+      k.rest t ∙ ap (some_tail (matches (literal b ∷ t))) (from_here s i h)
+      ∙ tail_next (matches (literal b ∷ t)) (get_or s i 0) (drop (i + 1) s) (other_byte b t (get_or s i 0) (drop (i + 1) s) ne);
+}
+
 -- no tail in front of the first such byte begins with it
 passed_to : (b : ℕ) (t : List Token) (s : Bytes)
     → some_tail (matches (literal b ∷ t)) s ≡ some_tail (matches (literal b ∷ t)) (drop (position_or_len (λ (x : ℕ). eqb x b) s) s)
