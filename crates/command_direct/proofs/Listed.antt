@@ -111,6 +111,15 @@ module _ (w b : List ℕ) {out out' : Bytes} {put : Option ℕ} where
     unfolding listing_meant
     lists_range e x = as_listing e refl x
 
+    pub lists_range_whole : Valid w b → length w < 2 ^ 64 → l ≡ listing.Range None
+        → Puts (encode (answer_listing (table (versions_in w b)) (RANGE (argument 1 a) (argument 2 a) (Some 18446744073709551615)))) out put out'
+        → Puts (encode (answer_listing (table (versions_in w b)) (listing_meant l a))) out put out'
+    lists_range_whole v h e x = lists_range e (range_argued (argument 1 a) (argument 2 a) None v h refl refl refl x)
+
+    pub lists_range_up : {n : ℕ} → l ≡ listing.Range (Some n) → Puts (encode (answer_listing (table (versions_in w b)) (RANGE (argument 1 a) (argument 2 a) (Some n)))) out put out'
+        → Puts (encode (answer_listing (table (versions_in w b)) (listing_meant l a))) out put out'
+    lists_range_up e x = lists_range e x
+
 -- THE CALL: a reply that leaves the store
 pub lists_answer : (l : Listing) (w b : List ℕ) (used : ℕ) {out out' : Bytes} {put : Option ℕ} {r : AnswerNumbers} → Valid w b → out ≡ replicate (length out) 0
     → Puts (encode (answer_listing (table (versions_in w b)) l)) out put out' → r ≡ put_answer put used → Answers (lists l) used out w b r out' w b
