@@ -8,10 +8,11 @@ ghost use Rattle.store_memtable.specs.Reading.{versions_of};
 ghost use Rattle.base_key.specs.Bytes.{over_front};
 ghost use Rattle.command_spec.specs.Session.{any_moved};
 ghost use Rattle.command_spec.specs.Sessions.{session_from};
-ghost use Rattle.command_spec.specs.Watch.{KeysAt, inserted_at, Spotted};
+ghost use Rattle.command_spec.specs.Lent.{OneSession};
+ghost use Rattle.command_spec.specs.Watch.{KeysAt, inserted_at, Spotted, WatchPut};
 
 use session_memory::session::Session;
-use session_memory::{KEY_LENGTHS, KEY_SEQUENCES, WATCHED};
+use session_memory::{COUNTS, KEY_LENGTHS, KEY_SEQUENCES, MOST_KEY_BYTES, WATCHED};
 use std::cmp::Ordering;
 use store_memtable::store::Store;
 
@@ -47,6 +48,25 @@ fn insert_bytes(text: &mut [u8], at: usize, used: usize, name: &[u8])
 {
     base_writing::shift_up(text, at, used, name.len());
     base_writing::put_at(text, at, name);
+}
+
+// Puts the `count` keys of working memory in their places.
+pub fn keep(
+    words: &mut [u64],
+    bytes: &mut [u8],
+    lens: &[u64],
+    seqs: &[u64],
+    text: &[u8],
+    count: usize,
+)
+    requires one_session { OneSession words.old bytes.old }
+    requires lens_len { (length lens.now ≡ 32) × (length seqs.now ≡ 32) × (length text.now ≡ 2048) }
+    ensures { WatchPut lens.now seqs.now text.now count words.old words.new bytes.old bytes.new }
+{
+    words[KEY_LENGTHS..KEY_SEQUENCES].copy_from_slice(lens);
+    words[KEY_SEQUENCES..COUNTS].copy_from_slice(seqs);
+    bytes[0..MOST_KEY_BYTES].copy_from_slice(text);
+    words[WATCHED] = count as u64;
 }
 
 // Has one of the watched keys a version above its sequence?

@@ -84,9 +84,6 @@ impl Watch {
         requires { OneSession words.old bytes.old }
         ensures { WatchPut self.now.lens self.now.seqs self.now.text self.now.count words.old words.new bytes.old bytes.new }
     {
-        words[KEY_LENGTHS..KEY_SEQUENCES].copy_from_slice(&self.lens);
-        words[KEY_SEQUENCES..COUNTS].copy_from_slice(&self.seqs);
-        bytes[0..MOST_KEY_BYTES].copy_from_slice(&self.text);
-        words[WATCHED] = self.count as u64;
+        crate::keep(words, bytes, &self.lens, &self.seqs, &self.text, self.count);
     }
 }
