@@ -123,8 +123,8 @@ FAULTS = [
     ("frames_lines/rest.rt", "a rest of 4,096 bytes is dropped", "if 4096 < count {", "if 4096 <= count {"),
     ("frames_lines/quit.rt", "bytes behind QUIT are read on", "matches!(control, Control::Quit)", "false"),
     ("frames_console/step.rt", "a reply hides behind a later empty request", "replied || 0 < count", "replied || 1 < count"),
-    ("session_route/queueing.rt", "SET with options is queued", "if command_names::with_options(named.row, behind) {", "if command_names::with_options(named.row, 0) {"),
-    ("session_route/queueing.rt", "a wrong argument count is queued", "if !command_names::count_right(named.row, behind) {", "if false {"),
+    ("session_route/queueing.rt", "SET with options is queued", "if command_names::with_options(row, behind) {", "if command_names::with_options(row, 0) {"),
+    ("session_route/queueing.rt", "a wrong argument count is queued", "if !command_names::count_right(row, behind) {", "if false {"),
     ("command_names/lib.rt", "MSET may end with a key", "(!row.pairs || count % 2 == 0)", "(!row.pairs || 1 < count)"),
 ]
 

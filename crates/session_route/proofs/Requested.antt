@@ -53,14 +53,15 @@ module _ {way : Way} {last : ℕ} {w w' : List ℕ} {b : Bytes} (h : Held w b) {
       (λ st s l. rw e (unfold way_done in ap (λ (t : Bytes). changing (not_queueable t) marked st s) (sym n))) (x.is b h)
 
 module _ {way : Way} {last : ℕ} {w w' : List ℕ} {b b' : Bytes} {used : ℕ} {out out' : Bytes} {r : AnswerNumbers} where
-  pub way_queues : (row : Row) (a : Args) → way ≡ Queue → Answered (queue_done row a) w w' b b' used out r out' → AnsweredWith last (way_done way row a) w w' b b' used out r out'
-  way_queues row a e x = answered_with (queue_done row a) (way_done way row a) (λ st s l. rw e (unfold way_done in refl)) x
+  pub way_queues : (row : Row) (a : Args) {named : Row} → named ≡ row → way ≡ Queue → Answered (queue_done named a) w w' b b' used out r out' → AnsweredWith last (way_done way row a) w w' b b' used out r out'
+  way_queues row a {named} n e x = answered_with (queue_done named a) (way_done way row a) (λ st s l. rw e (unfold way_done in ap (λ (y : Row). queue_done y a st s) (sym n))) x
 
-  pub way_watches : (row : Row) (a : Args) → way ≡ Watch → Answered (watch_done row (arguments a) last) w w' b b' used out r out' → AnsweredWith last (way_done way row a) w w' b b' used out r out'
-  way_watches row a e x = answered_with (watch_done row (arguments a) last) (way_done way row a) (λ st s l. rw e (by_last st s l)) x
+  pub way_watches : (row : Row) (a : Args) {named : Row} → named ≡ row → way ≡ Watch → Answered (watch_done named (arguments a) last) w w' b b' used out r out'
+      → AnsweredWith last (way_done way row a) w w' b b' used out r out'
+  way_watches row a {named} k e x = answered_with (watch_done named (arguments a) last) (way_done way row a) (λ st s l. rw e (by_last st s l)) x
     where
-      by_last : (st : Store) (s : Session) → st.last ≡ last → way_done Watch row a st s ≡ watch_done row (arguments a) last st s
-      by_last st s l = unfold way_done in ap (λ (n : ℕ). watch_done row (arguments a) n st s) l
+      by_last : (st : Store) (s : Session) → st.last ≡ last → way_done Watch row a st s ≡ watch_done named (arguments a) last st s
+      by_last st s l = unfold way_done in (λ i. watch_done (sym k i) (arguments a) (l i) st s)
 
 -- THE ANSWER OF `respond`, by the route
 pub here_answers : (w : List ℕ) (b : Bytes) (a : Args) (row : CodeRow) (way : Way) {route : Route} → Looked (name_word a) row

@@ -30,8 +30,25 @@ pub fn answer(
     // A `match`: the input tells which runs, and no function may hand a closure out.
     match way {
         Way::Steer(step) => steer::steer(step, words, out, used),
-        Way::Watch => watching::watch_keys(words, bytes, named, last, out, used),
-        Way::Queue => queueing::queue_up(words, bytes, named, out, used),
+        Way::Watch => watching::watch_keys(
+            words,
+            bytes,
+            &named.request,
+            named.name(),
+            named.row,
+            last,
+            out,
+            used,
+        ),
+        Way::Queue => queueing::queue_up(
+            words,
+            bytes,
+            &named.request,
+            named.name(),
+            named.row,
+            out,
+            used,
+        ),
         Way::NotQueueable => steer::not_queueable(words, named.name(), out, used),
     }
 }
