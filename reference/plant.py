@@ -111,7 +111,7 @@ FAULTS = [
     ("exec_finish/lib.rt", "6 for an EXEC that finds no sequence", "return Err(CallError::NoSequence);", "return Err(CallError::NoRoom);"),
     ("session_route/routes.rt", "UNWATCH inside MULTI is answered at once", "Control::Unwatch => Route::Here(Way::NotQueueable),", "Control::Unwatch => Route::Here(Way::Steer(Step::Unwatch)),"),
     ("session_route/queueing.rt", "a queue that is full leaves the session unmarked", "session_flags::mark_failed(words);", ""),
-    ("session_route/watching.rt", "4 for a watch that is full", "watch.add_keys(request, last).ok_or(CallError::WatchFull)?;", "watch.add_keys(request, last).ok_or(CallError::QueueFull)?;"),
+    ("session_route/watching.rt", "4 for a watch that is full", "return Err(CallError::WatchFull);", "return Err(CallError::QueueFull);"),
     ("command_direct/listings.rt", "RANGE without LIMIT gives ten pairs", "let most = limit.unwrap_or(u64::MAX);", "let most = limit.unwrap_or(10);"),
     ("command_direct/run.rt", "a counter's text has 19 bytes", "let mut text = [0u8; 20];", "let mut text = [0u8; 19];"),
     ("call_serve/respond.rt", "EXEC uses all bytes handed in", "Route::Exec => transaction::exec(swords, sbytes, store, out, used),", "Route::Exec => transaction::exec(swords, sbytes, store, out, named.request.input.len()),"),

@@ -1,6 +1,6 @@
 -- Laws of WATCH: the keys are watched with its reply, or 5, or 3. Assumes nothing.
 use Prim.Native.Nat.{ℕ, ◌-◌, ◌≤◌}
-use mathlib.Core.Path.{◌≡◌, refl, sym, ap, ◌∙◌, subst}
+use mathlib.Core.Path.{◌≡◌, sym, ap, ◌∙◌}
 use mathlib.Core.Bool.{Bool, true, false, cond}
 use mathlib.Core.List.{List, map}
 use native.Mathlib.Omega.{arith}
@@ -12,10 +12,9 @@ use Rattle.base_writing.specs.Puts.{Puts}
 use Rattle.resp_spec.specs.Reply.{Reply, encode, ok}
 use Rattle.store_memtable.specs.Table.{Entry}
 use Rattle.store_memtable.specs.Versions.{Store}
-use Rattle.command_spec.specs.Numbers.{AnswerNumbers, answer_numbers, number_of, error_number}
+use Rattle.command_spec.specs.Numbers.{AnswerNumbers, answer_numbers}
 use Rattle.command_spec.specs.declared.Answer.{Answer}
 use Rattle.command_spec.specs.declared.CallError.{CallError}
-use Rattle.command_spec.specs.declared.CallError.TheVariants.{WatchFull}
 use Rattle.session_memory.specs.declared.session.Session.{Session}
 use Rattle.session_watch.specs.declared.watch.Watch.{Watch}
 use Rattle.session_watch.specs.Grown.{watch_in, Copied, Grown}
@@ -38,8 +37,8 @@ use Rattle.command_answer.specs.Answers.{refusal}
 use Rattle.session_route.specs.Answers.{changing, same, Answered, Unchanged}
 use Rattle.session_route.specs.Routes.{watching_at, watch_done}
 use Rattle.command_answer.proofs.Finish.{Cleared}
-use Rattle.session_route.proofs.Answering.{error_above, error_passed, Wrote, Full, replied_with, answered_same, answered_wrote, answered_full, answered_number}
-use Rattle.std.specs.Prelude.{Option, None, Some, Result, Ok, Err, IsErrAnd, ok_or}
+use Rattle.session_route.proofs.Answering.{Wrote, Full, replied_with, answered_same, answered_wrote, answered_full, answered_number}
+use Rattle.std.specs.Prelude.{Option, None, Some, Result}
 
 -- the two branches, by whether the keys fit
 fits_watched : (ks : List Key) (last : ℕ) (st : Store) (s : Meant) → watch_fits (watched_keys (add_keys last ks s.watch)) ≡ true
@@ -56,31 +55,20 @@ unfolding watch_fits
 holding_fits {js} g =
     rw (le-leb (length (watched_keys js)) 32 (omega (arith, length-map js (λ (e : Entry ℕ). e.0), g.few)), le-leb (total (map length (watched_keys js))) 2048 g.short)
 
--- what `ok_or` made of what adding gave
-added : {r : Option Unit} {u : Unit} → ◌≡◌ {A = Result Unit CallError} (Ok u) (ok_or r WatchFull) → r ≡ Some u
-added {r = None} e = let z : ◌≡◌ {A = ℕ} 0 5 = ap number_of e in absurd (omega arith)
-added {r = Some v} e = refl
-
-not_added : {r : Option Unit} {x : CallError} → ◌≡◌ {A = Result Unit CallError} (Err x) (ok_or r WatchFull) → (r ≡ None) × (error_number x ≡ 5)
-not_added {r = None} e = (refl, ap number_of e)
-not_added {r = Some v} {x = x} e = let z : error_number x ≡ 0 = ap number_of e in absurd (omega (arith, error_above x))
-
 -- the keys added to a copy of the session's, in working memory
 abbrev from : Session → Meant
 from s = session_from s.words.now s.bytes.now
 
 module _ (s : Session) {k : Watch} (n : Watch) (c : Copied s k) (ks : List Key) (last : ℕ) (r : Option Unit) (g : Grown (add_keys last ks (watch_in k)) k n r) where
-  pub watch_refused : {used : ℕ} {out : Bytes} → Cleared out → {x : CallError} → ◌≡◌ {A = Result Unit CallError} (Err x) (ok_or r WatchFull) → (q : Result Answer CallError) → IsErrAnd q (λ y. y ≡ x)
-      → Answered (watching_at ks last) s.words.now s.words.now s.bytes.now s.bytes.now used out (answer_numbers q) out
-  watch_refused {used} {out} z {x} e q q-is =
+  pub watch_refused : {used : ℕ} {out : Bytes} → Cleared out → r ≡ None → Answered (watching_at ks last) s.words.now s.words.now s.bytes.now s.bytes.now used out (refusal 5) out
+  watch_refused {used} {out} z e =
       let full : watch_fits (watched_keys (add_keys last ks (from s).watch)) ≡ false =
-      ap (λ (y : Watching). watch_fits (watched_keys (add_keys last ks y))) (sym (copied_is s c)) ∙ grown_full (add_keys last ks (watch_in k)) k n g (not_added e).0 in
-      subst (λ (a : AnswerNumbers). Answered (watching_at ks last) s.words.now s.words.now s.bytes.now s.bytes.now used out a out) (sym (error_passed q x q-is ∙ ap refusal (not_added {r = r} e).1))
-      (answered_number s.held (watching_at ks last) used z 5 (from s) (λ st. no_room ks last st (from s) full) (sym (words_kept s.held)) (sym (bytes_kept s.held)))
+      ap (λ (y : Watching). watch_fits (watched_keys (add_keys last ks y))) (sym (copied_is s c)) ∙ grown_full (add_keys last ks (watch_in k)) k n g e in
+      answered_number s.held (watching_at ks last) used z 5 (from s) (λ st. no_room ks last st (from s) full) (sym (words_kept s.held)) (sym (bytes_kept s.held))
 
-  module _ {u : Unit} (e : ◌≡◌ {A = Result Unit CallError} (Ok u) (ok_or r WatchFull)) where
+  module _ {u : Unit} (e : r ≡ Some u) where
     held_now : Holding (add_keys last ks (from s).watch) (part 4 32 s.words.now) n.lens (part 36 32 s.words.now) n.seqs (part 0 2048 s.bytes.now) n.text n.count n.used
-    held_now = grown_here s n ks last c (grown_holding (add_keys last ks (watch_in k)) k n g (added e))
+    held_now = grown_here s n ks last c (grown_holding (add_keys last ks (watch_in k)) k n g e)
 
     says_watched : (st : Store) → watching_at ks last st (from s) ≡ says (fixed_reply Ok') st (watching_with ks last (from s))
     says_watched st = fits_watched ks last st (from s) (holding_fits held_now)

@@ -30,7 +30,9 @@ fn watch_arguments(
     ensures { Answered (watching_at (arguments (arguments_of request.now)) last) words.old words.new bytes.old bytes.new used out.old (answer_numbers result) out.new }
 {
     let mut watch = Watch::of(&Session { words, bytes });
-    watch.add_keys(request, last).ok_or(CallError::WatchFull)?;
+    let Some(()) = watch.add_keys(request, last) else {
+        return Err(CallError::WatchFull);
+    };
     let put = command_errors::put_fixed(out, Fixed::Ok);
     let answer = command_answer::put_answer(put, used)?;
     watch.keep(words, bytes);
