@@ -45,10 +45,8 @@ impl<'o, 'a> Reader<'o, 'a, 'a> {
         ensures { option_copied result ≡ read_through self.now name.now }
     {
         if let Some(j) = self.writes.find(name) {
-            let own = self.writes.written(j)?;
-            return Some(own);
+            return self.writes.written(j);
         }
-        let stored = self.store.get(name, self.seq)?;
-        Some(stored)
+        self.store.get(name, self.seq)
     }
 }
