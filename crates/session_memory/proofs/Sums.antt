@@ -42,6 +42,10 @@ every_lengths k (suc n) p =
     let e : 2 * k + 1 + 2 ≡ 2 * suc k + 1 = omega arith in
     ap (λ (l : List ℕ). get_or p (2 * k + 1) 0 ∷ l) (ap (λ (m : ℕ). every m 2 n p) e ∙ every_lengths (suc k) n p)
 
+-- the lengths from the first place on
+pub first_lengths : (n : ℕ) (p : List ℕ) → every 1 2 n p ≡ lengths_at 0 n p
+first_lengths n p = every_lengths 0 n p
+
 -- `i` of the words are summed
 pub record Summing (w : List ℕ) (from step count limit i sum : ℕ) : Type 0 where
   pub small : sum ≤ limit

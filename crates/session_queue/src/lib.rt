@@ -14,6 +14,7 @@ use session_memory::{
 };
 
 // The sum of the lengths of `count` arguments, or one more than `limit` if it is above.
+#[tactic(auto, using(session_memory::proofs::Sums::first_lengths))]
 pub fn lengths_within(places: &[u64], count: usize, limit: usize) -> usize
     requires { (2 * count ≤ length places.now) × (limit ≤ 8192) }
     ensures { result ≡ capped limit (total (lengths_at 0 count places.now)) }
