@@ -10,6 +10,8 @@ use Rattle.store_memtable.specs.Versions.{Store, commit}
 use Rattle.store_memtable.specs.Layout.{store_in, leave_words, leave_bytes}
 use Rattle.store_memtable.specs.Rows.{Valid}
 use Rattle.store_memtable.proofs.Sequence.{leave_words_same, leave_bytes_same}
+use Rattle.group_spec.specs.declared.Verdict.{Verdict}
+use Rattle.group_spec.specs.Group.{verdict_byte}
 use Rattle.group_spec.specs.Members.{list_from, write_at}
 use Rattle.command_spec.specs.declared.Answer.{Answer}
 use Rattle.command_spec.specs.declared.CallError.{CallError}
@@ -26,11 +28,11 @@ use Rattle.group_spec.specs.Settling.{RoomFor, sizes_from}
 use Rattle.command_answer.specs.Answers.{refusal, put_answer}
 use Rattle.exec_decision.proofs.Executes.{applied_zero, applied_number, error_numbered}
 use Rattle.exec_finish.specs.declared.Prepared.{Prepared}
-use Rattle.exec_finish.specs.Numbers.{prepared_numbers}
+use Rattle.exec_finish.specs.Numbers.{PreparedNumbers, prepared_with, prepared_numbers, answer_with}
 use Rattle.exec_finish.specs.Leaving.{Leaves, Closes}
-use Rattle.exec_finish.specs.Deciding.{Applies}
+use Rattle.exec_finish.specs.Deciding.{Applies, Concludes}
 use Rattle.command_answer.proofs.Finish.{finish_wrote, says_wrote, finish_full, full_cleared, says_number}
-use Rattle.std.specs.Prelude.{Option, None, Some, Ok, Err}
+use Rattle.std.specs.Prelude.{Option, None, Some, Result, Ok, Err}
 
 -- the same call under another name
 renamed : {x y : Served} (out : Bytes) (w b s : List ℕ) (sb : Bytes) {r : AnswerNumbers} {out' : Bytes} {w' b' s' : List ℕ} → x ≡ y → Leaves y out w b s sb r out' w' b' s' → Leaves x out w b s sb r out' w' b' s'
@@ -80,18 +82,21 @@ closes_stopped None used e q = closes_full used refl q
 
 -- WHAT WAS DECIDED, APPLIED
 module _ (ws : List Write) (used : ℕ) (w b : List ℕ) {s : List ℕ} where
-  -- an error leaves all
-  pub applies_error : (e : CallError) → Valid w b → Applies ws (prepared_numbers (Err e)) used w b s w b s (answer_numbers (Err e))
+  -- a number leaves all
+  pub applies_number : {d : PreparedNumbers} {r : AnswerNumbers} → (d.number ≡ 0 → ⊥) → r ≡ refusal d.number → Valid w b → Applies ws d used w b s w b s r
   unfolding reply_buffer
-  applies_error e v = record {
+  applies_number nz r-is v = record {
     leaves = λ f out out' sb h n m ws-is z q.
-        let nz : f.number ≡ 0 → ⊥ = λ i. error_numbered e (n ∙ i) in
+        let nz' : f.number ≡ 0 → ⊥ = λ e. nz (n ∙ e) in
         let k : length out - 0 ≡ length out = omega arith in
-        renamed out w b s sb (applied_number used f (store_in w b) (session_from s sb) nz)
-        (rw n (all_left f.number out w b s sb v h (z ∙ ap (λ (x : Bytes). x ++ replicate (length out - length x) 0) (q nz) ∙ ap (λ (i : ℕ). replicate i 0) k)));
+        renamed out w b s sb (applied_number used f (store_in w b) (session_from s sb) nz')
+        (rw (r-is, n) (all_left f.number out w b s sb v h (z ∙ ap (λ (x : Bytes). x ++ replicate (length out - length x) 0) (q nz') ∙ ap (λ (i : ℕ). replicate i 0) k)));
   }
 
-  pub applies_writes : (p : Prepared) {w' b' s' : List ℕ} → w' ≡ leave_words (commit ws (store_in w b)) w → b' ≡ leave_bytes (commit ws (store_in w b)) b → Left cleared s s'
+  pub applies_error : (e : CallError) → Valid w b → Applies ws (prepared_numbers (Err e)) used w b s w b s (answer_numbers (Err e))
+  applies_error e v = applies_number (error_numbered e) refl v
+
+  pub applies_writes : (p : Prepared Verdict) {w' b' s' : List ℕ} → w' ≡ leave_words (commit ws (store_in w b)) w → b' ≡ leave_bytes (commit ws (store_in w b)) b → Left cleared s s'
       → Applies ws (prepared_numbers (Ok p)) used w b s w' b' s' (record { number = 0; used = used; reply = p.reply })
   applies_writes p w-is b-is l = record {
     leaves = λ f out out' sb h n m ws-is z q.
@@ -103,6 +108,28 @@ module _ (ws : List Write) (used : ℕ) (w b : List ℕ) {s : List ℕ} where
           session_bytes = sym (bytes_cleared h);
         });
   }
+
+  module _ {E : Type 0} where
+    pub concludes_writes : (d : Result (Prepared Verdict) E) (p : Prepared Verdict) {w' b' s' : List ℕ} → d ≡ Ok p → w' ≡ leave_words (commit ws (store_in w b)) w → b' ≡ leave_bytes (commit ws (store_in w b)) b → Left cleared s s'
+        → Concludes ws d used w b s w' b' s' (Ok (record { used = used; reply = p.reply }))
+    concludes_writes d p e w-is b-is l = rw e (record { answer = refl; applies = applies_writes p w-is b-is l })
+
+    -- with any number for the error
+    pub concludes_number : (number : E → ℕ) (d : Result (Prepared Verdict) E) (r : Result Answer E) {w' b' s' : List ℕ} → ((e : E) → d ≡ Err e → number e ≡ 0 → ⊥) → Valid w b → Concludes ws d used w b s w' b' s' r
+        → Applies ws (prepared_with verdict_byte number d) used w b s w' b' s' (answer_with number r)
+    concludes_number number (Ok p) r nz v k = rw k.answer k.applies
+    concludes_number number (Err e) r nz v k = rw (k.error, k.words, k.bytes, k.session) (applies_number (nz e refl) refl v)
+
+  -- any word but 0 for the error
+  pub concludes_word : (d : Result (Prepared Verdict) ℕ) (r : Result Answer ℕ) {w' b' s' : List ℕ} → (d ≡ Err 0 → ⊥) → Valid w b → Concludes ws d used w b s w' b' s' r
+      → Applies ws (prepared_with verdict_byte (λ n. n) d) used w b s w' b' s' (answer_with (λ n. n) r)
+  concludes_word d r nz v k = concludes_number (λ n. n) d r (λ e is z. nz (is ∙ ap Err z)) v k
+
+  -- a call's error
+  pub concludes_error : (d : Result (Prepared Verdict) CallError) (r : Result Answer CallError) {w' b' s' : List ℕ} → Valid w b → Concludes ws d used w b s w' b' s' r
+      → Applies ws (prepared_numbers d) used w b s w' b' s' (answer_numbers r)
+  concludes_error (Ok p) r v k = rw k.answer k.applies
+  concludes_error (Err e) r v k = rw (k.error, k.words, k.bytes, k.session) (applies_error e v)
 
 -- THE OWN WRITES as a list: committed, they leave a valid store
 pub own_committed : (own : List ℕ) (d : Bytes) (rows : ℕ) (w b : List ℕ) {w' b' : List ℕ} → Own own d rows → Valid w b → RoomFor w rows (sizes_from own 0 rows)

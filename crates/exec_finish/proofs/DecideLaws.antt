@@ -21,15 +21,30 @@ use Rattle.group_spec.specs.declared.Verdict.TheVariants.{Accepted}
 use Rattle.group_spec.specs.Group.{has_room, has_sequences, verdict_byte}
 use Rattle.group_spec.specs.Settling.{RoomFor, sizes_from}
 use Rattle.group_spec.proofs.Settled.{room_granted}
+use Rattle.command_spec.specs.Numbers.{error_number}
 use Rattle.command_spec.specs.Session.{clear}
 use Rattle.command_writes.specs.Own.{own_writes, Own}
 use Rattle.command_writes.proofs.Growing.{none_writes, own_none, own_count, own_sizes}
 use Rattle.command_answer.proofs.Finish.{says_wrote, says_number}
 use Rattle.exec_decision.specs.Decided.{stopped, decided_reply}
 use Rattle.exec_decision.proofs.Executes.{judged_to}
-use Rattle.exec_finish.specs.Numbers.{PreparedNumbers}
-use Rattle.exec_finish.specs.Deciding.{halted, prepared_by, judged_by, judged_buffer, Judges, Decides}
+use Rattle.exec_finish.specs.Numbers.{PreparedNumbers, prepared_with, prepared_numbers, prepared_words}
+use Rattle.exec_finish.specs.Deciding.{halted, prepared_as, prepared_by, judged_by, judged_buffer, Judges, Decides}
 use Rattle.std.specs.Prelude.{Option, None, Some}
+
+-- PREPARED with any verdict, as numbers
+pub prepared_told : {V : Type 0} (byte : V → ℕ) (put : Option ℕ) (verdict : V) (rows end : ℕ) → prepared_with byte error_number (prepared_as put verdict rows end) ≡ prepared_by put (byte verdict) rows end
+unfolding prepared_as prepared_by
+prepared_told byte (Some n) verdict rows end = refl
+prepared_told byte None verdict rows end = refl
+
+-- a word is told as it is
+pub prepared_word : (put : Option ℕ) (verdict rows end : ℕ) → prepared_words (prepared_as put verdict rows end) ≡ prepared_by put verdict rows end
+prepared_word put verdict rows end = prepared_told (λ n. n) put verdict rows end
+
+-- a verdict by its byte
+pub prepared_verdict : (put : Option ℕ) (verdict : Verdict) (rows end : ℕ) → prepared_numbers (prepared_as put verdict rows end) ≡ prepared_by put (verdict_byte verdict) rows end
+prepared_verdict put verdict rows end = prepared_told verdict_byte put verdict rows end
 
 -- There is room for no writes
 no_rows : (w b own : List ℕ) → Valid w b → last_word w < 2 ^ 64 → RoomFor w 0 (sizes_from own 0 0)

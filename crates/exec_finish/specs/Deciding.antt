@@ -4,15 +4,20 @@ use Rattle.base_key.specs.Bytes.{Bytes}
 use Rattle.store_memtable.specs.Table.{Write}
 use Rattle.store_memtable.specs.Layout.{count_word, used_word, most_versions_word, most_bytes_word, store_in}
 use Rattle.group_spec.specs.Settling.{RoomFor, sizes_from}
+use Rattle.group_spec.specs.declared.Verdict.{Verdict}
+use Rattle.command_spec.specs.declared.Answer.{Answer}
+use Rattle.command_spec.specs.declared.CallError.{CallError}
+use Rattle.command_spec.specs.declared.CallError.TheVariants.{ReplyTooLong}
 use Rattle.command_spec.specs.Numbers.{AnswerNumbers}
 use Rattle.command_spec.specs.Sessions.{session_from}
 use Rattle.command_spec.specs.Held.{Held}
 use Rattle.command_spec.specs.Finish.{reply_buffer}
 use Rattle.command_writes.specs.Own.{own_writes, Own}
 use Rattle.exec_decision.specs.Decided.{Decided, applied}
-use Rattle.exec_finish.specs.Numbers.{PreparedNumbers}
+use Rattle.exec_finish.specs.declared.Prepared.{Prepared}
+use Rattle.exec_finish.specs.Numbers.{PreparedNumbers, prepared_numbers}
 use Rattle.exec_finish.specs.Leaving.{Leaves}
-use Rattle.std.specs.Prelude.{Option, None, Some}
+use Rattle.std.specs.Prelude.{Option, None, Some, Result, Ok, Err, MatchResult}
 
 -- a number: no verdict, no reply, no writes
 abbrev pub halted : ℕ → PreparedNumbers
@@ -22,6 +27,11 @@ halted n = record { number = n; verdict = 255; reply = 0; rows = 0; end = 0 }
 unfoldable pub prepared_by : Option ℕ → ℕ → ℕ → ℕ → PreparedNumbers
 prepared_by (Some n) verdict rows end = record { number = 0; verdict = verdict; reply = n; rows = rows; end = end }
 prepared_by None verdict rows end = halted 3
+
+-- a reply that was put, with any verdict and its writes, or 3
+unfoldable pub prepared_as : {V : Type 0} → Option ℕ → V → ℕ → ℕ → Result (Prepared V) CallError
+prepared_as (Some n) verdict rows end = Ok (record { verdict = verdict; reply = n; rows = rows; end = end })
+prepared_as None verdict rows end = Err ReplyTooLong
 
 -- after the queue, by room and sequences
 unfoldable pub judged_by : Bool → Bool → Option ℕ → ℕ → ℕ → PreparedNumbers
@@ -57,3 +67,19 @@ pub record Decides (f : Decided) (w : List ℕ) (out : Bytes) (own : List ℕ) (
 pub record Applies (ws : List Write) (d : PreparedNumbers) (used : ℕ) (w b s w' b' s' : List ℕ) (r : AnswerNumbers) : Type 0 where
   pub leaves : (f : Decided) (out out' sb : Bytes) → Held s sb → d.number ≡ f.number → d.reply ≡ length f.reply → ws ≡ f.writes → out' ≡ reply_buffer (length out) f.reply
       → ((f.number ≡ 0 → ⊥) → f.reply ≡ []) → Leaves (applied used f (store_in w b) (session_from s sb)) out w b s sb r out' w' b' s'
+
+-- applied, it is answered
+pub record Answered {E : Type 0} (ws : List Write) (p : Prepared Verdict) (used : ℕ) (w b s w' b' s' : List ℕ) (r : Result Answer E) : Type 0 where
+  pub answer : r ≡ Ok (record { used = used; reply = p.reply })
+  pub applies : Applies ws (prepared_numbers (Ok p)) used w b s w' b' s' (record { number = 0; used = used; reply = p.reply })
+
+-- an error is told, and all stays
+pub record Stays {E : Type 0} (e : E) (w b s w' b' s' : List ℕ) (r : Result Answer E) : Type 0 where
+  pub error : r ≡ Err e
+  pub words : w' ≡ w
+  pub bytes : b' ≡ b
+  pub session : s' ≡ s
+
+-- THE END: what is prepared is applied, or any error stays
+abbrev pub Concludes : {E : Type 0} → List Write → Result (Prepared Verdict) E → ℕ → List ℕ → List ℕ → List ℕ → List ℕ → List ℕ → List ℕ → Result Answer E → Type 0
+Concludes ws d used w b s w' b' s' r = MatchResult d (λ p. Answered ws p used w b s w' b' s' r) (λ e. Stays e w b s w' b' s' r)

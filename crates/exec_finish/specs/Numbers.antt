@@ -1,8 +1,10 @@
 -- What is prepared, as numbers.
 use Rattle.std.specs.Prelude.{ℕ, Result, Ok, Err}
+use Rattle.group_spec.specs.declared.Verdict.{Verdict}
 use Rattle.group_spec.specs.Group.{verdict_byte}
+use Rattle.command_spec.specs.declared.Answer.{Answer}
 use Rattle.command_spec.specs.declared.CallError.{CallError}
-use Rattle.command_spec.specs.Numbers.{error_number}
+use Rattle.command_spec.specs.Numbers.{AnswerNumbers, error_number}
 use Rattle.exec_finish.specs.declared.Prepared.{Prepared}
 
 -- 0 or a number, the verdict byte (255: none is reached), the length of the reply, the rows of the own writes, and the end of their data
@@ -13,7 +15,20 @@ pub record PreparedNumbers : Type 0 where
   pub rows : ℕ
   pub end : ℕ
 
--- with an error: no verdict, no reply, no writes
-abbrev pub prepared_numbers : Result Prepared CallError → PreparedNumbers
-prepared_numbers (Ok p) = record { number = 0; verdict = verdict_byte p.verdict; reply = p.reply; rows = p.rows; end = p.end }
-prepared_numbers (Err e) = record { number = error_number e; verdict = 255; reply = 0; rows = 0; end = 0 }
+-- with any verdict and any error, by the numbers of these; with an error: no verdict, no reply, no writes
+abbrev pub prepared_with : {V E : Type 0} → (V → ℕ) → (E → ℕ) → Result (Prepared V) E → PreparedNumbers
+prepared_with byte number (Ok p) = record { number = 0; verdict = byte p.verdict; reply = p.reply; rows = p.rows; end = p.end }
+prepared_with byte number (Err e) = record { number = number e; verdict = 255; reply = 0; rows = 0; end = 0 }
+
+-- with a verdict
+abbrev pub prepared_numbers : Result (Prepared Verdict) CallError → PreparedNumbers
+prepared_numbers = prepared_with verdict_byte error_number
+
+-- with a word for the verdict
+abbrev pub prepared_words : Result (Prepared ℕ) CallError → PreparedNumbers
+prepared_words = prepared_with (λ n. n) error_number
+
+-- an answer or any error, by the number of this: no bytes are used, and there is no reply
+abbrev pub answer_with : {E : Type 0} → (E → ℕ) → Result Answer E → AnswerNumbers
+answer_with number (Ok a) = record { number = 0; used = a.used; reply = a.reply }
+answer_with number (Err e) = record { number = number e; used = 0; reply = 0 }

@@ -1,18 +1,17 @@
 // The end of an EXEC: what is decided of it, and that applied: the answer, the commit, and the session cleared.
 #![tactic(auto)]
 
-ghost use Rattle.std.specs.Prelude.{◌+◌, ◌*◌, ◌^◌, ◌<◌, ◌≤◌, ◌≡◌, Ok, ltb, length};
+ghost use Rattle.std.specs.Prelude.{ℕ, ◌+◌, ◌*◌, ◌^◌, ◌<◌, ◌≤◌, ◌≡◌, ltb, length};
 ghost use Rattle.store_memtable.specs.Versions.{commit};
 ghost use Rattle.store_memtable.specs.Layout.{last_word};
 ghost use Rattle.store_memtable.specs.Rows.{room_in};
 ghost use Rattle.store_commit.specs.Leaving.{Leaves, SameLent, store_of};
-ghost use Rattle.group_spec.specs.Group.{verdict_byte};
 ghost use Rattle.group_spec.specs.Settling.{RoomFor, sizes_from};
 ghost use Rattle.command_writes.specs.Own.{own_writes};
 ghost use Rattle.exec_finish.specs.Leaving.{Closes};
-ghost use Rattle.exec_finish.specs.Deciding.{Applies, Counted, Judges, prepared_by};
-ghost use Rattle.command_spec.specs.Numbers.{answer_numbers};
-ghost use Rattle.exec_finish.specs.Numbers.{prepared_numbers};
+ghost use Rattle.exec_finish.specs.Deciding.{Concludes, Counted, Judges, prepared_as, prepared_by};
+ghost use Rattle.command_spec.specs.Numbers.{answer_numbers, error_number};
+ghost use Rattle.exec_finish.specs.Numbers.{prepared_numbers, prepared_with};
 
 use command_spec::{Answer, CallError};
 use command_writes::own::OwnWrites;
@@ -24,8 +23,8 @@ use store_memtable::LAST;
 // An EXEC that is decided and ready to be applied: the verdict (`NotTaken`: none is reached), the length of the reply, the rows of the own writes,
 // and the end of the data that they lie in.
 #[derive(Clone, Copy)]
-pub struct Prepared {
-    pub verdict: Verdict,
+pub struct Prepared<V = Verdict> {
+    pub verdict: V,
     pub reply: usize,
     pub rows: usize,
     pub end: usize,
@@ -60,14 +59,15 @@ fn commit_own(writes: &OwnWrites, store: &mut StoreMut)
 }
 
 // What is decided where a reply was put, if it fits.
-#[tactic(auto, unfolding(crate::specs::Deciding::prepared_by, crate::specs::Numbers::prepared_numbers))]
-pub fn prepare(
+#[tactic(auto, unfolding(crate::specs::Deciding::prepared_as))]
+pub fn prepare<V: Copy>(
     put: Option<usize>,
-    verdict: Verdict,
+    verdict: V,
     rows: usize,
     end: usize,
-) -> Result<Prepared, CallError>
-    ensures { prepared_numbers result ≡ prepared_by put (verdict_byte verdict) rows end }
+) -> Result<Prepared<V>, CallError>
+    ensures whole { result ≡ prepared_as put verdict rows end }
+    ensures numbers { (byte : V → ℕ) → prepared_with byte error_number result ≡ prepared_by put (byte verdict) rows end }
 {
     let reply = put.ok_or(CallError::ReplyTooLong)?;
     Ok(Prepared {
@@ -103,23 +103,24 @@ pub fn judge(
     prepare(put, Verdict::Accepted, rows, end)
 }
 
-// Applies what was decided: the own writes are committed and the session is cleared.
-pub fn apply(
+// Applies what was decided: the own writes are committed and the session is cleared. An error leaves all.
+pub fn apply<E: Copy>(
     session_words: &mut [u64],
     writes: &OwnWrites,
     store: &mut StoreMut,
-    prepared: Prepared,
+    prepared: Result<Prepared, E>,
     used: usize,
-) -> Answer
+) -> Result<Answer, E>
     requires session_words_len { length session_words.old ≡ 644 }
     requires room_for { 0 < writes.now.rows → RoomFor store.old.words.now writes.now.rows (sizes_from writes.now.own.now 0 writes.now.rows) }
     ensures lent { SameLent store.old store.new }
-    ensures applies { Applies (own_writes writes.now.own.now writes.now.«data».now writes.now.rows) (prepared_numbers (Ok prepared)) used store.old.words.now store.old.bytes.now session_words.old store.new.words.now store.new.bytes.now session_words.new (answer_numbers (Ok result)) }
+    ensures concludes { Concludes (own_writes writes.now.own.now writes.now.«data».now writes.now.rows) prepared used store.old.words.now store.old.bytes.now session_words.old store.new.words.now store.new.bytes.now session_words.new result }
 {
+    let prepared = prepared?;
     commit_own(writes, store);
     session_flags::clear(session_words);
-    Answer {
+    Ok(Answer {
         used,
         reply: prepared.reply,
-    }
+    })
 }

@@ -13,8 +13,11 @@ use Rattle.resp_spec.specs.Reply.{NilArray, array, head, encode}
 use Rattle.store_memtable.specs.Table.{Write}
 use Rattle.store_memtable.specs.Layout.{last_word, store_in}
 use Rattle.store_memtable.specs.Rows.{Valid, versions_in, room_in}
+use Rattle.group_spec.specs.declared.Verdict.{Verdict}
 use Rattle.group_spec.specs.declared.Verdict.TheVariants.{Conflict, NotTaken}
 use Rattle.group_spec.specs.Settling.{sizes_from}
+use Rattle.command_spec.specs.declared.Answer.{Answer}
+use Rattle.command_spec.specs.declared.CallError.{CallError}
 use Rattle.command_spec.specs.Numbers.{AnswerNumbers, answer_numbers}
 use Rattle.command_spec.specs.declared.Fixed.TheVariants.{ExecAbort}
 use Rattle.command_spec.specs.Command.{Command, command_of}
@@ -30,18 +33,18 @@ use Rattle.command_writes.specs.Own.{own_writes}
 use Rattle.exec_queued.specs.declared.Walked.{Walked}
 use Rattle.exec_decision.specs.Decided.{Decided, decide_queue}
 use Rattle.exec_decision.proofs.Executes.{judged_to, executes, queue_silent, queue_failed, queue_conflict, queue_judged}
-use Rattle.command_spec.specs.declared.CallError.{CallError}
 use Rattle.exec_finish.specs.declared.Prepared.{Prepared}
 use Rattle.exec_finish.specs.Numbers.{PreparedNumbers, prepared_numbers}
-use Rattle.exec_finish.proofs.ConcludeLaws.{applies_error}
+use Rattle.exec_finish.proofs.ConcludeLaws.{concludes_error}
 use Rattle.command_writes.proofs.Growing.{none_writes}
 use Rattle.exec_finish.specs.Leaving.{Leaves}
-use Rattle.exec_finish.specs.Deciding.{prepared_by, Judges, Decides, Applies}
+use Rattle.exec_finish.specs.Deciding.{prepared_by, Judges, Decides, Applies, Concludes}
 use Rattle.exec_finish.proofs.DecideLaws.{decides_prepared, decides_judged}
 use Rattle.exec_run.specs.Progress.{Progress, begun, advance_all, commands_in, QueueRan}
 use Rattle.exec_run.specs.Execution.{LaidOut, exec_served, exec_decided, ExecReady, known_numbers, BeforeQueue}
 use Rattle.exec_run.proofs.Progress.{ended, ended_writes, replies_are}
-use Rattle.std.specs.Prelude.{Option, None, Some, Ok, Err}
+use Rattle.std.specs.Prelude.{Option, None, Some, Result, Ok, Err}
+use Rattle.std.specs.Result.{result_transpose}
 
 -- THE TESTS of a session
 queue_tests : (last : ℕ) (s : List ℕ) (sb : Bytes) → session_ok last s sb ≡ true → (all_positive (part 68 (get_or s 3 0) s) ≡ true) × (all_queueable (queue_in s sb) ≡ true)
@@ -148,9 +151,19 @@ module _ (s : List ℕ) (sb : Bytes) (w b : List ℕ) (out : Bytes) (x₀ : Exec
       (subst (λ (t : Bytes). Puts t out a.put mid) reply_is ran.puts) j))
 
 -- with a decision known before the queue runs
-pub known_some : (s : List ℕ) (sb : Bytes) (w b : List ℕ) (out : Bytes) (p : Prepared) {e : Option Prepared} {mid : Bytes} → BeforeQueue s sb w b out (known_numbers (Ok e)) mid → e ≡ Some p
+pub known_some : (s : List ℕ) (sb : Bytes) (w b : List ℕ) (out : Bytes) (p : Prepared Verdict) {e : Option (Prepared Verdict)} {mid : Bytes} → BeforeQueue s sb w b out (known_numbers (Ok e)) mid → e ≡ Some p
     → BeforeQueue s sb w b out (Some (prepared_numbers (Ok p))) mid
-known_some s sb w b out p {e} {mid} k is = subst (λ (x : Option Prepared). BeforeQueue s sb w b out (known_numbers (Ok x)) mid) is k
+known_some s sb w b out p {e} {mid} k is = subst (λ (x : Option (Prepared Verdict)). BeforeQueue s sb w b out (known_numbers (Ok x)) mid) is k
+
+known_as : (e : Result (Option (Prepared Verdict)) CallError) (d : Result (Prepared Verdict) CallError) → result_transpose e ≡ Some d → known_numbers e ≡ Some (prepared_numbers d)
+known_as (Ok None) d is = let z : ◌≡◌ {A = ℕ} 0 1 = cc in absurd (omega arith)
+known_as (Ok (Some p)) d is = let q : Ok p ≡ d = cc in rw (sym q) refl
+known_as (Err e) d is = let q : Err e ≡ d = cc in rw (sym q) refl
+
+-- or with an error, which is known as well
+module _ (s : List ℕ) (sb : Bytes) (w b : List ℕ) (out : Bytes) {mid : Bytes} (e : Result (Option (Prepared Verdict)) CallError) (k : BeforeQueue s sb w b out (known_numbers e) mid) where
+  pub known_result : (d : Result (Prepared Verdict) CallError) → result_transpose e ≡ Some d → BeforeQueue s sb w b out (Some (prepared_numbers d)) mid
+  known_result d is = subst (λ (x : Option PreparedNumbers). BeforeQueue s sb w b out x mid) (known_as e d is) k
 
 -- AND APPLIED
 pub exec_applied : (s : List ℕ) (sb : Bytes) (w b : List ℕ) (used : ℕ) (out own d : Bytes) {r : PreparedNumbers} {out' : Bytes} {w' b' s' : List ℕ} {x : AnswerNumbers}
@@ -164,26 +177,22 @@ exec_applied s sb w b used out own d {r} {out'} {w'} {b'} {s'} {x} held k l =
     subst (λ (y : Served). Leaves y out w b s sb x out' w' b' s') (sym (executes (length out) used st t q))
     (l.leaves (decide_queue (length out) q st t) out out' sb held k.number k.size k.writes k.reply (queue_silent (length out) q st t))
 
--- after the queue: with an error, and with what is prepared
+-- after the queue, with what is prepared or with an error
 module _ (s : List ℕ) (sb : Bytes) (w b : List ℕ) (used : ℕ) (out own d : Bytes) {mid : Bytes} (held : Held s sb) where
-  pub decided_stopped : (e : CallError) → Valid w b → Decides (exec_decided (length out) s sb w b) w out own d (prepared_numbers (Err e)) mid
-      → Leaves (exec_served (length out) used s sb w b) out w b s sb (answer_numbers (Err e)) mid w b s
-  decided_stopped e v k = exec_applied s sb w b used out own d held k (applies_error (own_writes own (take 0 d) 0) used w b e v)
-
-  pub decided_applied : (p : Prepared) {w' b' s' : List ℕ} {x : AnswerNumbers} → Decides (exec_decided (length out) s sb w b) w out own d (prepared_numbers (Ok p)) mid
-      → Applies (own_writes own (take p.end d) p.rows) (prepared_numbers (Ok p)) used w b s w' b' s' x → Leaves (exec_served (length out) used s sb w b) out w b s sb x mid w' b' s'
-  decided_applied p k l = exec_applied s sb w b used out own d held k l
+  pub decided_applied : (e f : Result (Prepared Verdict) CallError) (r : Result Answer CallError) (z : ℕ × ℕ) {w' b' s' : List ℕ} → Valid w b → Decides (exec_decided (length out) s sb w b) w out own d (prepared_numbers e) mid
+      → f ≡ e → z ≡ ((prepared_numbers e).rows, (prepared_numbers e).end) → Concludes (own_writes own (take z.1 d) z.0) f used w b s w' b' s' r
+      → Leaves (exec_served (length out) used s sb w b) out w b s sb (answer_numbers r) mid w' b' s'
+  decided_applied e f r z {w'} {b'} {s'} v k same sizes l =
+      exec_applied s sb w b used out own d held k
+      (concludes_error (own_writes own (take (prepared_numbers e).end d) (prepared_numbers e).rows) used w b e r v (rw (same, sizes) at l))
 
 -- and before it, where nothing is written
 module _ (s : List ℕ) (sb : Bytes) (w b : List ℕ) (used : ℕ) (out : Bytes) {mid : Bytes} (held : Held s sb) where
-  pub known_stopped : (e : CallError) → Valid w b → BeforeQueue s sb w b out (Some (prepared_numbers (Err e))) mid
-      → Leaves (exec_served (length out) used s sb w b) out w b s sb (answer_numbers (Err e)) mid w b s
-  known_stopped e v k = decided_stopped s sb w b used out [] [] held e v (k.known _ refl [] [])
-
-  pub known_applied : (p : Prepared) {w' b' s' : List ℕ} {x : AnswerNumbers} → BeforeQueue s sb w b out (Some (prepared_numbers (Ok p))) mid
-      → Applies (own_writes [] [] 0) (prepared_numbers (Ok p)) used w b s w' b' s' x → Leaves (exec_served (length out) used s sb w b) out w b s sb x mid w' b' s'
-  known_applied p {w'} {b'} {s'} {x} k l =
+  pub known_applied : (e : Result (Prepared Verdict) CallError) (r : Result Answer CallError) {w' b' s' : List ℕ} → Valid w b → BeforeQueue s sb w b out (Some (prepared_numbers e)) mid
+      → Concludes (own_writes [] [] 0) e used w b s w' b' s' r → Leaves (exec_served (length out) used s sb w b) out w b s sb (answer_numbers r) mid w' b' s'
+  known_applied e r {w'} {b'} {s'} v k l =
       let kn = k.known _ refl [] [] in
+      let p = prepared_numbers e in
       let none : p.rows ≡ 0 = omega (arith, kn.kept.rows.rows_in) in
       let same : own_writes [] [] 0 ≡ own_writes [] (take p.end []) p.rows = none_writes [] [] ∙ sym (none_writes [] (take p.end [])) ∙ ap (own_writes [] (take p.end [])) (sym none) in
-      decided_applied s sb w b used out [] [] held p kn (subst (λ (ws : List Write). Applies ws (prepared_numbers (Ok p)) used w b s w' b' s' x) same l)
+      decided_applied s sb w b used out [] [] held e e r (p.rows, p.end) v kn refl refl (subst (λ (ws : List Write). Concludes ws e used w b s w' b' s' r) same l)

@@ -5,6 +5,7 @@ use mathlib.Core.Bool.{Bool, true, false, cond}
 use mathlib.Core.List.{List, []}
 use Rattle.std.specs.Prelude.{Option, None, Some, Ok, Err}
 use borrow.Author.Tests.{eqb-true}
+use Rattle.group_spec.specs.declared.Verdict.{Verdict}
 use Rattle.command_spec.specs.declared.CallError.{CallError}
 use Rattle.command_spec.specs.Numbers.{error_number}
 use Rattle.exec_decision.proofs.Executes.{error_numbered, preview_refused}
@@ -60,7 +61,7 @@ module _ (s : List ℕ) (sb : Bytes) (w b : List ℕ) (out : Bytes) {mid : Bytes
   pub known_error : (e : CallError) → BeforeQueue s sb w b out (Some (prepared_numbers (Err e))) mid → Previews (last_word w) (exec_decided (length out) s sb w b) out (preview_numbers (Err e)) mid
   known_error e k = previews_error (exec_decided (length out) s sb w b) w out [] [] e (k.known _ refl [] [])
 
-  module _ (p : Prepared) (k : BeforeQueue s sb w b out (Some (prepared_numbers (Ok p))) mid) where
+  module _ (p : Prepared Verdict) (k : BeforeQueue s sb w b out (Some (prepared_numbers (Ok p))) mid) where
     pub previews_known : {r : PreviewNumbers} → r ≡ preview_prepared (last_word w) (prepared_numbers (Ok p)) → Previews (last_word w) (exec_decided (length out) s sb w b) out r mid
     previews_known r-is = previews (exec_decided (length out) s sb w b) w out [] [] (k.known _ refl [] []) r-is
 
@@ -73,7 +74,7 @@ module _ (s : List ℕ) (sb : Bytes) (w b : List ℕ) (out : Bytes) where
     alone_decides : {p : PreparedNumbers} → p ≡ prepared_by put 255 0 0 → Decides (decided_reply (length out) NotTaken (encode (fixed_reply ExecAlone)) []) w out [] [] p mid
     alone_decides p-is = decides_prepared w b [] [] out (fixed_reply ExecAlone) NotTaken ok h z puts p-is
 
-    pub alone_room : (p : Prepared) → prepared_numbers (Ok p) ≡ prepared_by put 255 0 0 → last_word w + p.rows < 2 ^ 64
+    pub alone_room : (p : Prepared Verdict) → prepared_numbers (Ok p) ≡ prepared_by put 255 0 0 → last_word w + p.rows < 2 ^ 64
     alone_room p p-is = (alone_decides p-is).room.seqs_free
 
   module _ {m : Bool} (m-is : m ≡ yes? (get_or s 0 0)) where

@@ -3,6 +3,7 @@ use Rattle.std.specs.Prelude.{ℕ, ◌+◌, ◌*◌, ◌≤◌, ◌≡◌, Bool,
 use Rattle.base_key.specs.Bytes.{Bytes, ◌and◌, part, total}
 use Rattle.store_memtable.specs.Layout.{store_in}
 use Rattle.store_memtable.specs.Rows.{Valid, versions_in}
+use Rattle.group_spec.specs.declared.Verdict.{Verdict}
 use Rattle.command_spec.specs.Command.{command_of}
 use Rattle.command_spec.specs.Session.{any_moved, execute}
 use Rattle.command_spec.specs.Sessions.{queue_in, session_from, all_positive, all_queueable}
@@ -60,7 +61,7 @@ pub record ExecReady (s : List ℕ) (sb : Bytes) (w b : List ℕ) (out : Bytes) 
   pub cleared : out ≡ replicate (length out) 0
 
 -- what is known before the queue runs, as numbers: an error too is known
-abbrev pub known_numbers : Result (Option Prepared) CallError → Option PreparedNumbers
+abbrev pub known_numbers : Result (Option (Prepared Verdict)) CallError → Option PreparedNumbers
 known_numbers (Ok None) = None
 known_numbers (Ok (Some p)) = Some (prepared_numbers (Ok p))
 known_numbers (Err e) = Some (prepared_numbers (Err e))

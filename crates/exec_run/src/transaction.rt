@@ -38,13 +38,17 @@ fn exec_in(
         words: session_words,
         bytes: session_bytes,
     };
-    let prepared = decide::decide_queue(&session, &store.read(), out, sizes, places, own, data)?;
+    let prepared = decide::decide_queue(&session, &store.read(), out, sizes, places, own, data);
+    let (rows, end) = match prepared {
+        Ok(decided) => (decided.rows, decided.end),
+        Err(_) => (0, 0),
+    };
     let writes = OwnWrites {
         own,
-        rows: prepared.rows,
-        data: &data[..prepared.end],
+        rows,
+        data: &data[..end],
     };
-    Ok(exec_finish::apply(session_words, &writes, store, prepared, used))
+    exec_finish::apply(session_words, &writes, store, prepared, used)
 }
 
 // The same, with working memory by the sizes of the queue.
@@ -96,7 +100,7 @@ pub fn exec(
         words: session_words,
         bytes: session_bytes,
     };
-    let Some(prepared) = decide::before_queue(&session, &store.read(), out)? else {
+    let Some(prepared) = decide::before_queue(&session, &store.read(), out).transpose() else {
         return exec_queue(session_words, session_bytes, store, out, used);
     };
     let none = OwnWrites {
@@ -104,5 +108,5 @@ pub fn exec(
         rows: 0,
         data: &[],
     };
-    Ok(exec_finish::apply(session_words, &none, store, prepared, used))
+    exec_finish::apply(session_words, &none, store, prepared, used)
 }
