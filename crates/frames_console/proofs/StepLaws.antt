@@ -13,7 +13,7 @@ use lib.Seq.{drop-length, drop-drop}
 use borrow.Author.Tests.{le-leb, lt-leb, lt-ltb, le-ltb, ltb-true, ltb-false, leb-true, leb-false, eq-eqb, ne_eqb, eqb-true, eqb-false}
 use Rattle.base_key.specs.Bytes.{Bytes}
 use Rattle.resp_spec.specs.Request.{read_request, spanned}
-use Rattle.std.specs.Prelude.{Result, Ok, Err}
+use Rattle.std.specs.Prelude.{Result, Ok, Err, IfOk}
 use Rattle.command_spec.specs.declared.Answer.{Answer}
 use Rattle.command_spec.specs.declared.CallError.{CallError}
 use Rattle.command_spec.specs.Numbers.{AnswerNumbers, answer_numbers, error_number}
@@ -26,9 +26,9 @@ use Rattle.frames_console.specs.declared.serve.Progress.{Progress}
 use Rattle.frames_console.specs.declared.step.Step.{Step}
 use Rattle.frames_console.specs.declared.step.Step.TheVariants.{Refused, Waits, Used}
 use Rattle.frames_lines.specs.Pieces.{MarkFits}
-use Rattle.frames_lines.specs.Quit.{quits, first_span, Drops}
+use Rattle.frames_lines.specs.Quit.{quits, first_span, Drops, Told}
 use Rattle.frames_lines.specs.Served.{FrameServed, or_some}
-use Rattle.frames_console.specs.Steps.{done_with, step_of, replied_after, Fit, StepPromise, Stepping, Reached, SomeServed, Serves, StepFits, After, NextServed}
+use Rattle.frames_console.specs.Steps.{done_with, step_of, replied_after, StepsTo, Fit, StepPromise, Stepping, Reached, SomeServed, Serves, StepFits, After, NextServed}
 use Rattle.frames_console.specs.Page.{Added, ReplyFits, Moved}
 use Rattle.base_writing.proofs.Lent.{rest}
 use Rattle.frames_lines.proofs.LineLaws.{lent_is}
@@ -61,20 +61,40 @@ positive n z = go (dec_le 1 n)
     go (yes p) = omega arith
     go (no p) = let e : n ≡ 0 = omega arith in absurd (z e)
 
+-- THE STEP of a number, whatever comes with it
+step_number : (s : Bytes) (a : AnswerNumbers) → 0 < a.number → Refused a.number ≡ step_of s a
+unfolding step_of
+step_number s a h = rw (lt-ltb 0 a.number h)
+
+pub step_word : (s : Bytes) (a : AnswerNumbers) {r : Step} → 0 < a.number → StepsTo (λ e n. n ≡ e) s (Err a.number) r → r ≡ step_of s a
+step_word s a h k = k.refused ∙ ap Refused k.is ∙ step_number s a h
+
 -- THE STEP of an answer
-module _ (s : Bytes) {r : Result Answer CallError} where
-  pub step_error : {e : CallError} {n : ℕ} → r ≡ Err e → n ≡ error_number e → Refused n ≡ step_of s (answer_numbers r)
+module _ (s : Bytes) (a : Answer) where
+  step_none : a.used ≡ 0 → Waits ≡ step_of s (answer_numbers (Ok a))
   unfolding step_of
-  step_error {e} is told = rw (is, told, lt-ltb 0 (error_number e) (positive (error_number e) (error_numbered e)))
+  step_none e = rw (eq-eqb a.used 0 e)
 
-  module _ {a : Answer} (is : r ≡ Ok a) where
-    pub step_none : a.used ≡ 0 → Waits ≡ step_of s (answer_numbers r)
-    unfolding step_of
-    step_none e = rw (is, eq-eqb a.used 0 e)
+  step_some : {n : ℕ} → (a.used ≡ 0 → ⊥) → n ≡ done_with s a.used → Used n a.reply ≡ step_of s (answer_numbers (Ok a))
+  unfolding step_of
+  step_some e d = rw (ne_eqb a.used 0 e, d)
 
-    pub step_some : {n : ℕ} → (a.used ≡ 0 → ⊥) → n ≡ done_with s a.used → Used n a.reply ≡ step_of s (answer_numbers r)
-    unfolding step_of
-    step_some e d = rw (is, ne_eqb a.used 0 e, d)
+module _ {E : Type 0} (told : E → ℕ → Type 0) (s : Bytes) (r : Result Answer E) {a : Answer} (is : r ≡ Ok a) where
+  pub steps_none : a.used ≡ 0 → StepsTo told s r Waits
+  steps_none e = rw is (step_none s a e)
+
+  pub steps_some : {n : ℕ} → (a.used ≡ 0 → ⊥) → n ≡ done_with s a.used → StepsTo told s r (Used n a.reply)
+  steps_some e d = rw is (step_some s a e d)
+
+-- and of a call's error, by its number
+pub step_error : (s : Bytes) (a : Result Answer CallError) {r : Step} → StepsTo (λ e n. n ≡ error_number e) s a r → r ≡ step_of s (answer_numbers a)
+step_error s (Ok a) h = h
+step_error s (Err e) h = h.refused ∙ ap Refused h.is ∙ step_number s (answer_numbers (Err e)) (positive (error_number e) (error_numbered e))
+
+-- and what the table holds of it
+pub told_ok : (s : Bytes) (a : Result Answer CallError) {table : List ℕ} → Told s (answer_numbers a) table → IfOk a (λ x. Told s (answer_numbers (Ok x)) table)
+told_ok s (Ok x) h = h
+told_ok s (Err e) h = tt
 
 -- WHAT A STEP TELLS of the answer
 refused_told : (s : Bytes) (a : AnswerNumbers) (n : ℕ) → Refused n ≡ step_of s a → (a.number ≡ n) × (a.number ≡ 0 → ⊥)

@@ -1,8 +1,9 @@
 -- One request of a frame, by what its call answered.
-use Rattle.std.specs.Prelude.{ℕ, ◌+◌, ◌-◌, ◌≤◌, ◌<◌, Bool, true, false, cond, List, ◌≡◌, eqb, leb, ltb, length, take, drop, replicate}
+use Rattle.std.specs.Prelude.{ℕ, ◌+◌, ◌-◌, ◌≤◌, ◌<◌, Bool, true, false, cond, List, ◌≡◌, Result, Ok, MatchResult, eqb, leb, ltb, length, take, drop, replicate}
 use Rattle.base_key.specs.Bytes.{Bytes}
 use Rattle.resp_spec.specs.Request.{read_request}
-use Rattle.command_spec.specs.Numbers.{AnswerNumbers}
+use Rattle.command_spec.specs.declared.Answer.{Answer}
+use Rattle.command_spec.specs.Numbers.{AnswerNumbers, answer_numbers}
 use Rattle.call_spec.specs.Calls.{Lent, valid, RequestPromise}
 use Rattle.call_spec.specs.Frames.{closes}
 use Rattle.frames_lines.specs.declared.pieces.Mark.{Mark}
@@ -21,6 +22,16 @@ done_with s used = cond (leb (length s) used) (length s) (cond (closes s (read_r
 -- the step that an answer makes
 unfoldable pub step_of : Bytes → AnswerNumbers → Step
 step_of s a = cond (ltb 0 a.number) (Refused a.number) (cond (eqb a.used 0) Waits (Used (done_with s a.used) a.reply))
+
+-- an error is refused with a number that it is told as
+pub record RefusedAs {E : Type 0} (told : E → ℕ → Type 0) (e : E) (r : Step) : Type 0 where
+  pub number : ℕ
+  pub refused : r ≡ Refused number
+  pub is : told e number
+
+-- the step that an answer makes, or any error
+abbrev pub StepsTo : {E : Type 0} → (E → ℕ → Type 0) → Bytes → Result Answer E → Step → Type 0
+StepsTo told s a r = MatchResult a (λ x. r ≡ step_of s (answer_numbers (Ok x))) (λ e. RefusedAs told e r)
 
 -- what is lent between two requests: valid memory, and a cleared reply buffer
 pub record Fit (l : Lent) (buffer : Bytes) : Type 0 where

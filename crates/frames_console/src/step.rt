@@ -1,11 +1,11 @@
 // One request of a frame: what its call answered, as the loop over the frame's requests goes on.
-ghost use Rattle.std.specs.Prelude.{◌≡◌, length};
+ghost use Rattle.std.specs.Prelude.{◌≡◌, IfOk, Ok, length};
 ghost use Rattle.resp_spec.specs.Request.{read_request};
 ghost use Rattle.command_spec.specs.Numbers.{answer_numbers};
 ghost use Rattle.frames_lines.specs.Quit.{Drops, Told};
-ghost use Rattle.frames_console.specs.Steps.{done_with, step_of, replied_after};
+ghost use Rattle.frames_console.specs.Steps.{done_with, replied_after, StepsTo};
 
-use command_spec::{Answer, CallError};
+use command_spec::Answer;
 use frames_lines::quit;
 
 // A returned number; no whole request; or a request with the bytes that are done with and those of its reply.
@@ -34,11 +34,11 @@ fn done_with(input: &[u8], places: &[u64], used: usize, reply: usize) -> usize
     used
 }
 
-// The step that an answer to the request at the front of `input` makes; `places` holds what was read.
-pub fn step_of(input: &[u8], places: &[u64], answer: Result<Answer, CallError>) -> Step
+// The step that an answer to the request at the front of `input` makes; `places` holds what was read. An error is refused with its number.
+pub fn step_of<E: Into<u64>>(input: &[u8], places: &[u64], answer: Result<Answer, E>) -> Step
     requires places_len { length places.now ≡ 2048 }
-    requires told { Told input.now (answer_numbers answer) places.now }
-    ensures { result ≡ step_of input.now (answer_numbers answer) }
+    requires told { IfOk answer (λ a. Told input.now (answer_numbers (Ok a)) places.now) }
+    ensures { StepsTo E.converts input.now answer result }
 {
     match answer {
         Err(error) => Step::Refused(error.into()),
