@@ -102,7 +102,7 @@ FAULTS = [
     ("command_listing/range.rt", "RANGE includes its end", "matches!(base_key::compare(name, end), Ordering::Less)", "matches!(base_key::compare(name, end), Ordering::Less | Ordering::Equal)"),
     ("command_listing/dbsize.rt", "DBSIZE counts versions", "reply::put_int(out, count as i64)", "reply::put_int(out, store.words[0] as i64)"),
     ("command_answer/lib.rt", "2 for a reply without room", "let reply = put.ok_or(CallError::ReplyTooLong)?;", "let reply = put.ok_or(CallError::TooManyArguments)?;"),
-    ("command_room/room.rt", "a refusal leaves what was written", "base_writing::clear(out);", "base_writing::clear(&mut out[..0]);"),
+    ("command_answer/lib.rt", "a refusal leaves what was written", "base_writing::clear(out);", "base_writing::clear(&mut out[..0]);"),
     ("command_room/room.rt", "a write may not use the last byte", "if rest < len {", "if rest <= len {"),
     ("command_direct/run.rt", "the name counts among DEL's writes", "let checked = room::check_room(store.words, request.count - 1, left);", "let checked = room::check_room(store.words, request.count, left);"),
     ("command_room/commit.rt", "DEL stores the name as value", "store.commit_one(name, name, false);", "store.commit_one(name, name, true);"),
