@@ -10,9 +10,9 @@ use Rattle.command_spec.specs.declared.Answer.{Answer}
 use Rattle.command_spec.specs.declared.CallError.{CallError}
 use Rattle.command_spec.specs.declared.CallError.TheVariants.{NoSession, TooManyArguments, ReplyTooLong, QueueFull, WatchFull, GroupUnfit, MemoryUnfit}
 use Rattle.command_spec.specs.declared.CallError.TheVariants as error
-use Rattle.command_spec.specs.Numbers.{AnswerNumbers, answer_numbers, error_number}
+use Rattle.command_spec.specs.Numbers.{AnswerNumbers, answer_numbers, answer_with, error_number, number_with}
 use Rattle.command_answer.specs.Answers.{put_answer, refusal}
-use Rattle.command_room.specs.Writes.{error_by, numbers_by, verdict_answer}
+use Rattle.command_room.specs.Writes.{verdict_answer}
 use Rattle.command_room.specs.Served.{buffer_after}
 use Rattle.command_room.proofs.Served.{answer_put, answer_refused, buffer_put, buffer_refused, error_some}
 use Rattle.std.specs.Prelude.{Option, None, Some, Result, Ok, Err, IfErr, IfNone, IfSome, IsErrAnd, OnErr, OnOk}
@@ -81,26 +81,26 @@ module _ {A E : Type 0} (checked : Result A E) (put : Option ℕ) (used : ℕ) w
 module _ {A E : Type 0} (number : E → ℕ) (gives : E → Type 0) (long : (e : E) → gives e → number e ≡ 3)
     (checked : Result A E) (some : (e : E) → checked ≡ Err e → number e ≡ 0 → ⊥) (put : Option ℕ) (used : ℕ) where
   put_numbers : (r : Result Answer E) (o : Option ℕ) → IfSome o (λ n. r ≡ Ok (record { used = used; reply = n })) → IfNone o (IsErrAnd r gives)
-      → numbers_by number r ≡ put_answer o used
+      → answer_with number r ≡ put_answer o used
   unfolding put_answer
-  put_numbers r (Some n) h l = ap (numbers_by number) h
+  put_numbers r (Some n) h l = ap (answer_with number) h
   put_numbers r None h l = go r l
     where
-      go : (x : Result Answer E) → IsErrAnd x gives → numbers_by number x ≡ put_answer None used
+      go : (x : Result Answer E) → IsErrAnd x gives → answer_with number x ≡ put_answer None used
       go (Ok a) g = absurd g
       go (Err e) g = ap refusal (long e g)
 
   pub numbers_answered : (r : Result Answer E) → IfErr checked (λ e. r ≡ Err e) → OnOk checked (IfSome put (λ n. r ≡ Ok (record { used = used; reply = n })))
-      → OnOk checked (IfNone put (IsErrAnd r gives)) → (v : Verdict) → error_by number checked ≡ verdict_byte v → numbers_by number r ≡ verdict_answer v put used
+      → OnOk checked (IfNone put (IsErrAnd r gives)) → (v : Verdict) → number_with number checked ≡ verdict_byte v → answer_with number r ≡ verdict_answer v put used
   numbers_answered r refused answered too_long v is = go checked refl refused answered too_long
     where
       go : (c : Result A E) → checked ≡ c → IfErr c (λ e. r ≡ Err e) → OnOk c (IfSome put (λ n. r ≡ Ok (record { used = used; reply = n })))
-          → OnOk c (IfNone put (IsErrAnd r gives)) → numbers_by number r ≡ verdict_answer v put used
+          → OnOk c (IfNone put (IsErrAnd r gives)) → answer_with number r ≡ verdict_answer v put used
       go (Ok a) c_is e h l = answer_put number c_is v is put used (put_numbers r put h l)
-      go (Err d) c_is e h l = ap (numbers_by number) e ∙ answer_refused number (some d c_is) c_is v is put used
+      go (Err d) c_is e h l = ap (answer_with number) e ∙ answer_refused number (some d c_is) c_is v is put used
 
   pub buffer_left : (out mid : Bytes) → OnErr checked (out ≡ replicate (length mid) 0) → OnOk checked (out ≡ mid)
-      → (v : Verdict) → error_by number checked ≡ verdict_byte v → out ≡ buffer_after v mid
+      → (v : Verdict) → number_with number checked ≡ verdict_byte v → out ≡ buffer_after v mid
   buffer_left out mid cleared kept v is = go checked refl cleared kept
     where
       go : (c : Result A E) → checked ≡ c → OnErr c (out ≡ replicate (length mid) 0) → OnOk c (out ≡ mid) → out ≡ buffer_after v mid

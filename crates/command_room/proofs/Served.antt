@@ -21,14 +21,14 @@ use Rattle.group_spec.specs.declared.Verdict.{Verdict}
 use Rattle.group_spec.specs.declared.Verdict.TheVariants.{Accepted, Conflict, NoRoom, NoSequence, NotTaken}
 use Rattle.group_spec.specs.Group.{plain, conflicts, has_room, has_sequences, judge, verdict_alone, verdict_byte}
 use Rattle.group_spec.proofs.SizeLaws.{left_rest, rest_within, short_above}
-use Rattle.command_spec.specs.Numbers.{AnswerNumbers, error_number}
+use Rattle.command_spec.specs.Numbers.{AnswerNumbers, error_number, number_with}
 use Rattle.command_spec.specs.declared.CallError.{CallError}
 use Rattle.command_spec.specs.declared.CallError.TheVariants.{NoSession, TooManyArguments, ReplyTooLong, QueueFull, WatchFull, GroupUnfit, MemoryUnfit}
 use Rattle.command_spec.specs.declared.CallError.TheVariants as error
 use Rattle.command_spec.specs.Command.{Effect}
 use Rattle.command_spec.specs.Session.{Session, committed}
 use Rattle.command_spec.specs.Finish.{silent, finish, finish_by, Says, StoreLeft}
-use Rattle.command_room.specs.Writes.{RoomForAll, error_by, verdict_left, verdict_answer}
+use Rattle.command_room.specs.Writes.{RoomForAll, verdict_left, verdict_answer}
 use Rattle.command_answer.specs.Answers.{refusal, put_answer}
 use Rattle.command_room.specs.Served.{buffer_after, effect_served, Runs}
 use Rattle.command_answer.proofs.Finish.{Cleared, finish_wrote, says_wrote, finish_full, full_cleared, says_number}
@@ -178,9 +178,9 @@ error_some error.NoSequence z = absurd (omega arith)
 error_some GroupUnfit z = absurd (omega arith)
 error_some MemoryUnfit z = absurd (omega arith)
 
-module _ {A E : Type 0} (number : E → ℕ) {checked : Result A E} {e : E} (some : number e ≡ 0 → ⊥) (is : checked ≡ Err e) (v : Verdict) (n-is : error_by number checked ≡ verdict_byte v) where
+module _ {A E : Type 0} (number : E → ℕ) {checked : Result A E} {e : E} (some : number e ≡ 0 → ⊥) (is : checked ≡ Err e) (v : Verdict) (n-is : number_with number checked ≡ verdict_byte v) where
   byte_is : number e ≡ verdict_byte v
-  byte_is = sym (ap (error_by number) is) ∙ n-is
+  byte_is = sym (ap (number_with number) is) ∙ n-is
 
   pub answer_refused : (put : Option ℕ) (used : ℕ) → refusal (number e) ≡ verdict_answer v put used
   unfolding verdict_answer
@@ -204,9 +204,9 @@ module _ {A E : Type 0} (number : E → ℕ) {checked : Result A E} {e : E} (som
       go NoSequence b = refl
       go NotTaken b = refl
 
-module _ {A E : Type 0} (number : E → ℕ) {checked : Result A E} {a : A} (is : checked ≡ Ok a) (v : Verdict) (n-is : error_by number checked ≡ verdict_byte v) where
+module _ {A E : Type 0} (number : E → ℕ) {checked : Result A E} {a : A} (is : checked ≡ Ok a) (v : Verdict) (n-is : number_with number checked ≡ verdict_byte v) where
   accepted_is : v ≡ Accepted
-  accepted_is = go v (sym n-is ∙ ap (error_by number) is)
+  accepted_is = go v (sym n-is ∙ ap (number_with number) is)
     where
       go : (x : Verdict) → verdict_byte x ≡ 0 → x ≡ Accepted
       go Accepted z = refl

@@ -6,10 +6,9 @@ use Rattle.store_memtable.specs.Layout.{count_word, used_word, last_word, most_v
 use Rattle.group_spec.specs.declared.Verdict.{Verdict}
 use Rattle.group_spec.specs.declared.Verdict.TheVariants.{Accepted, NoRoom, NoSequence}
 use Rattle.group_spec.specs.Group.{verdict_byte, is_accepted}
-use Rattle.command_spec.specs.declared.Answer.{Answer}
 use Rattle.command_spec.specs.Numbers.{AnswerNumbers}
 use Rattle.command_answer.specs.Answers.{refusal, put_answer}
-use Rattle.std.specs.Prelude.{Option, None, Some, Result, Ok, Err}
+use Rattle.std.specs.Prelude.{Option, None, Some}
 
 -- room for these writes, and sequences
 pub record RoomForAll (w : List ℕ) (ws : List Write) : Type 0 where
@@ -31,13 +30,3 @@ verdict_left w writes None = NoRoom
 -- 6 and 7 come before 3
 unfoldable pub verdict_answer : Verdict → Option ℕ → ℕ → AnswerNumbers
 verdict_answer v put used = cond (is_accepted v) (put_answer put used) (refusal (verdict_byte v))
-
--- an answer, or an error by the number that it has
-abbrev pub numbers_by : {E : Type 0} → (E → ℕ) → Result Answer E → AnswerNumbers
-numbers_by number (Ok a) = record { number = 0; used = a.used; reply = a.reply }
-numbers_by number (Err e) = refusal (number e)
-
--- 0, or the number of the error
-abbrev pub error_by : {A E : Type 0} → (E → ℕ) → Result A E → ℕ
-error_by number (Ok a) = 0
-error_by number (Err e) = number e

@@ -21,6 +21,11 @@ abbrev pub number_of : {A : Type 0} → Result A CallError → ℕ
 number_of (Ok a) = 0
 number_of (Err e) = error_number e
 
+-- the same with any error, by its number
+abbrev pub number_with : {A E : Type 0} → (E → ℕ) → Result A E → ℕ
+number_with number (Ok a) = 0
+number_with number (Err e) = number e
+
 -- 0 or a number, the bytes used, and the length of the reply
 pub record AnswerNumbers : Type 0 where
   pub number : ℕ
@@ -31,3 +36,8 @@ pub record AnswerNumbers : Type 0 where
 abbrev pub answer_numbers : Result Answer CallError → AnswerNumbers
 answer_numbers (Ok a) = record { number = 0; used = a.used; reply = a.reply }
 answer_numbers (Err e) = record { number = error_number e; used = 0; reply = 0 }
+
+-- the same with any error, by its number
+abbrev pub answer_with : {E : Type 0} → (E → ℕ) → Result Answer E → AnswerNumbers
+answer_with number (Ok a) = record { number = 0; used = a.used; reply = a.reply }
+answer_with number (Err e) = record { number = number e; used = 0; reply = 0 }

@@ -15,7 +15,7 @@ use Rattle.group_spec.specs.Group.{verdict_byte}
 use Rattle.group_spec.specs.Members.{list_from, write_at}
 use Rattle.command_spec.specs.declared.Answer.{Answer}
 use Rattle.command_spec.specs.declared.CallError.{CallError}
-use Rattle.command_spec.specs.Numbers.{AnswerNumbers, answer_numbers}
+use Rattle.command_spec.specs.Numbers.{AnswerNumbers, answer_numbers, answer_with, error_number}
 use Rattle.command_spec.specs.Session.{clear}
 use Rattle.command_spec.specs.Sessions.{session_from}
 use Rattle.command_spec.specs.Held.{Held, Left, cleared}
@@ -28,7 +28,7 @@ use Rattle.group_spec.specs.Settling.{RoomFor, sizes_from}
 use Rattle.command_answer.specs.Answers.{refusal, put_answer}
 use Rattle.exec_decision.proofs.Executes.{applied_zero, applied_number, error_numbered}
 use Rattle.exec_finish.specs.declared.Prepared.{Prepared}
-use Rattle.exec_finish.specs.Numbers.{PreparedNumbers, prepared_with, prepared_numbers, answer_with}
+use Rattle.exec_finish.specs.Numbers.{PreparedNumbers, prepared_with, prepared_numbers}
 use Rattle.exec_finish.specs.Leaving.{Leaves, Closes}
 use Rattle.exec_finish.specs.Deciding.{Applies, Concludes}
 use Rattle.command_answer.proofs.Finish.{finish_wrote, says_wrote, finish_full, full_cleared, says_number}
@@ -96,9 +96,9 @@ module _ (ws : List Write) (used : ℕ) (w b : List ℕ) {s : List ℕ} where
   pub applies_error : (e : CallError) → Valid w b → Applies ws (prepared_numbers (Err e)) used w b s w b s (answer_numbers (Err e))
   applies_error e v = applies_number (error_numbered e) refl v
 
-  pub applies_writes : (p : Prepared Verdict) {w' b' s' : List ℕ} → w' ≡ leave_words (commit ws (store_in w b)) w → b' ≡ leave_bytes (commit ws (store_in w b)) b → Left cleared s s'
-      → Applies ws (prepared_numbers (Ok p)) used w b s w' b' s' (record { number = 0; used = used; reply = p.reply })
-  applies_writes p w-is b-is l = record {
+  pub applies_writes : {V : Type 0} (byte : V → ℕ) (p : Prepared V) {w' b' s' : List ℕ} → w' ≡ leave_words (commit ws (store_in w b)) w → b' ≡ leave_bytes (commit ws (store_in w b)) b → Left cleared s s'
+      → Applies ws (prepared_with byte error_number (Ok p)) used w b s w' b' s' (record { number = 0; used = used; reply = p.reply })
+  applies_writes byte p w-is b-is l = record {
     leaves = λ f out out' sb h n m ws-is z q.
         renamed out w b s sb (applied_zero used f (store_in w b) (session_from s sb) (sym n))
         (record {
@@ -109,26 +109,26 @@ module _ (ws : List Write) (used : ℕ) (w b : List ℕ) {s : List ℕ} where
         });
   }
 
-  module _ {E : Type 0} where
-    pub concludes_writes : (d : Result (Prepared Verdict) E) (p : Prepared Verdict) {w' b' s' : List ℕ} → d ≡ Ok p → w' ≡ leave_words (commit ws (store_in w b)) w → b' ≡ leave_bytes (commit ws (store_in w b)) b → Left cleared s s'
+  module _ {V E : Type 0} where
+    pub concludes_writes : (d : Result (Prepared V) E) (p : Prepared V) {w' b' s' : List ℕ} → d ≡ Ok p → w' ≡ leave_words (commit ws (store_in w b)) w → b' ≡ leave_bytes (commit ws (store_in w b)) b → Left cleared s s'
         → Concludes ws d used w b s w' b' s' (Ok (record { used = used; reply = p.reply }))
-    concludes_writes d p e w-is b-is l = rw e (record { answer = refl; applies = applies_writes p w-is b-is l })
+    concludes_writes d p e w-is b-is l = rw e (record { answer = refl; applies = λ byte. applies_writes byte p w-is b-is l })
 
-    -- with any number for the error
-    pub concludes_number : (number : E → ℕ) (d : Result (Prepared Verdict) E) (r : Result Answer E) {w' b' s' : List ℕ} → ((e : E) → d ≡ Err e → number e ≡ 0 → ⊥) → Valid w b → Concludes ws d used w b s w' b' s' r
-        → Applies ws (prepared_with verdict_byte number d) used w b s w' b' s' (answer_with number r)
-    concludes_number number (Ok p) r nz v k = rw k.answer k.applies
-    concludes_number number (Err e) r nz v k = rw (k.error, k.words, k.bytes, k.session) (applies_number (nz e refl) refl v)
+    -- with any number for the verdict and for the error
+    pub concludes_number : (byte : V → ℕ) (number : E → ℕ) (d : Result (Prepared V) E) (r : Result Answer E) {w' b' s' : List ℕ} → ((e : E) → d ≡ Err e → number e ≡ 0 → ⊥) → Valid w b → Concludes ws d used w b s w' b' s' r
+        → Applies ws (prepared_with byte number d) used w b s w' b' s' (answer_with number r)
+    concludes_number byte number (Ok p) r nz v k = rw k.answer (k.applies byte)
+    concludes_number byte number (Err e) r nz v k = rw (k.error, k.words, k.bytes, k.session) (applies_number (nz e refl) refl v)
 
-  -- any word but 0 for the error
-  pub concludes_word : (d : Result (Prepared Verdict) ℕ) (r : Result Answer ℕ) {w' b' s' : List ℕ} → (d ≡ Err 0 → ⊥) → Valid w b → Concludes ws d used w b s w' b' s' r
-      → Applies ws (prepared_with verdict_byte (λ n. n) d) used w b s w' b' s' (answer_with (λ n. n) r)
-  concludes_word d r nz v k = concludes_number (λ n. n) d r (λ e is z. nz (is ∙ ap Err z)) v k
+  -- any word for the verdict, and any but 0 for the error
+  pub concludes_word : (d : Result (Prepared ℕ) ℕ) (r : Result Answer ℕ) {w' b' s' : List ℕ} → (d ≡ Err 0 → ⊥) → Valid w b → Concludes ws d used w b s w' b' s' r
+      → Applies ws (prepared_with (λ n. n) (λ n. n) d) used w b s w' b' s' (answer_with (λ n. n) r)
+  concludes_word d r nz v k = concludes_number (λ n. n) (λ n. n) d r (λ e is z. nz (is ∙ ap Err z)) v k
 
   -- a call's error
   pub concludes_error : (d : Result (Prepared Verdict) CallError) (r : Result Answer CallError) {w' b' s' : List ℕ} → Valid w b → Concludes ws d used w b s w' b' s' r
       → Applies ws (prepared_numbers d) used w b s w' b' s' (answer_numbers r)
-  concludes_error (Ok p) r v k = rw k.answer k.applies
+  concludes_error (Ok p) r v k = rw k.answer (k.applies verdict_byte)
   concludes_error (Err e) r v k = rw (k.error, k.words, k.bytes, k.session) (applies_error e v)
 
 -- THE OWN WRITES as a list: committed, they leave a valid store

@@ -4,18 +4,17 @@ use Rattle.base_key.specs.Bytes.{Bytes}
 use Rattle.store_memtable.specs.Table.{Write}
 use Rattle.store_memtable.specs.Layout.{count_word, used_word, most_versions_word, most_bytes_word, store_in}
 use Rattle.group_spec.specs.Settling.{RoomFor, sizes_from}
-use Rattle.group_spec.specs.declared.Verdict.{Verdict}
 use Rattle.command_spec.specs.declared.Answer.{Answer}
 use Rattle.command_spec.specs.declared.CallError.{CallError}
 use Rattle.command_spec.specs.declared.CallError.TheVariants.{ReplyTooLong}
-use Rattle.command_spec.specs.Numbers.{AnswerNumbers}
+use Rattle.command_spec.specs.Numbers.{AnswerNumbers, error_number}
 use Rattle.command_spec.specs.Sessions.{session_from}
 use Rattle.command_spec.specs.Held.{Held}
 use Rattle.command_spec.specs.Finish.{reply_buffer}
 use Rattle.command_writes.specs.Own.{own_writes, Own}
 use Rattle.exec_decision.specs.Decided.{Decided, applied}
 use Rattle.exec_finish.specs.declared.Prepared.{Prepared}
-use Rattle.exec_finish.specs.Numbers.{PreparedNumbers, prepared_numbers}
+use Rattle.exec_finish.specs.Numbers.{PreparedNumbers, prepared_with}
 use Rattle.exec_finish.specs.Leaving.{Leaves}
 use Rattle.std.specs.Prelude.{Option, None, Some, Result, Ok, Err, MatchResult}
 
@@ -69,9 +68,9 @@ pub record Applies (ws : List Write) (d : PreparedNumbers) (used : ℕ) (w b s w
       → ((f.number ≡ 0 → ⊥) → f.reply ≡ []) → Leaves (applied used f (store_in w b) (session_from s sb)) out w b s sb r out' w' b' s'
 
 -- applied, it is answered
-pub record Answered {E : Type 0} (ws : List Write) (p : Prepared Verdict) (used : ℕ) (w b s w' b' s' : List ℕ) (r : Result Answer E) : Type 0 where
+pub record Answered {V E : Type 0} (ws : List Write) (p : Prepared V) (used : ℕ) (w b s w' b' s' : List ℕ) (r : Result Answer E) : Type 0 where
   pub answer : r ≡ Ok (record { used = used; reply = p.reply })
-  pub applies : Applies ws (prepared_numbers (Ok p)) used w b s w' b' s' (record { number = 0; used = used; reply = p.reply })
+  pub applies : (byte : V → ℕ) → Applies ws (prepared_with byte error_number (Ok p)) used w b s w' b' s' (record { number = 0; used = used; reply = p.reply })
 
 -- an error is told, and all stays
 pub record Stays {E : Type 0} (e : E) (w b s w' b' s' : List ℕ) (r : Result Answer E) : Type 0 where
@@ -80,6 +79,6 @@ pub record Stays {E : Type 0} (e : E) (w b s w' b' s' : List ℕ) (r : Result An
   pub bytes : b' ≡ b
   pub session : s' ≡ s
 
--- THE END: what is prepared is applied, or any error stays
-abbrev pub Concludes : {E : Type 0} → List Write → Result (Prepared Verdict) E → ℕ → List ℕ → List ℕ → List ℕ → List ℕ → List ℕ → List ℕ → Result Answer E → Type 0
+-- THE END: what is prepared is applied, with any verdict, or any error stays
+abbrev pub Concludes : {V E : Type 0} → List Write → Result (Prepared V) E → ℕ → List ℕ → List ℕ → List ℕ → List ℕ → List ℕ → List ℕ → Result Answer E → Type 0
 Concludes ws d used w b s w' b' s' r = MatchResult d (λ p. Answered ws p used w b s w' b' s' r) (λ e. Stays e w b s w' b' s' r)

@@ -2,9 +2,8 @@
 use Rattle.std.specs.Prelude.{ℕ, Result, Ok, Err}
 use Rattle.group_spec.specs.declared.Verdict.{Verdict}
 use Rattle.group_spec.specs.Group.{verdict_byte}
-use Rattle.command_spec.specs.declared.Answer.{Answer}
 use Rattle.command_spec.specs.declared.CallError.{CallError}
-use Rattle.command_spec.specs.Numbers.{AnswerNumbers, error_number}
+use Rattle.command_spec.specs.Numbers.{error_number}
 use Rattle.exec_finish.specs.declared.Prepared.{Prepared}
 
 -- 0 or a number, the verdict byte (255: none is reached), the length of the reply, the rows of the own writes, and the end of their data
@@ -27,8 +26,3 @@ prepared_numbers = prepared_with verdict_byte error_number
 -- with a word for the verdict
 abbrev pub prepared_words : Result (Prepared ℕ) CallError → PreparedNumbers
 prepared_words = prepared_with (λ n. n) error_number
-
--- an answer or any error, by the number of this: no bytes are used, and there is no reply
-abbrev pub answer_with : {E : Type 0} → (E → ℕ) → Result Answer E → AnswerNumbers
-answer_with number (Ok a) = record { number = 0; used = a.used; reply = a.reply }
-answer_with number (Err e) = record { number = number e; used = 0; reply = 0 }

@@ -104,11 +104,11 @@ pub fn judge(
 }
 
 // Applies what was decided: the own writes are committed and the session is cleared. An error leaves all.
-pub fn apply<E: Copy>(
+pub fn apply<V: Copy, E: Copy>(
     session_words: &mut [u64],
     writes: &OwnWrites,
     store: &mut StoreMut,
-    prepared: Result<Prepared, E>,
+    prepared: Result<Prepared<V>, E>,
     used: usize,
 ) -> Result<Answer, E>
     requires session_words_len { length session_words.old ≡ 644 }
