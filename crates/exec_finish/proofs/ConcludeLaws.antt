@@ -131,6 +131,13 @@ module _ (ws : List Write) (used : ℕ) (w b : List ℕ) {s : List ℕ} where
   concludes_error (Ok p) r v k = rw k.answer (k.applies verdict_byte)
   concludes_error (Err e) r v k = rw (k.error, k.words, k.bytes, k.session) (applies_error e v)
 
+  -- where no error is handed in
+  pub concludes_applies : {E : Type 0} (p : Prepared Verdict) (r : Result Answer E) {a : Answer} {w' b' s' : List ℕ} → r ≡ Ok a → Concludes ws (Ok p) used w b s w' b' s' r
+      → Applies ws (prepared_numbers (Ok p)) used w b s w' b' s' (answer_numbers (Ok a))
+  concludes_applies p r {a} {w'} {b'} {s'} is k =
+      let same : record { used = used; reply = p.reply } ≡ a = cc (is, k.answer) in
+      subst (λ (x : Answer). Applies ws (prepared_numbers (Ok p)) used w b s w' b' s' (answer_numbers (Ok x))) same (k.applies verdict_byte)
+
 -- THE OWN WRITES as a list: committed, they leave a valid store
 pub own_committed : (own : List ℕ) (d : Bytes) (rows : ℕ) (w b : List ℕ) {w' b' : List ℕ} → Own own d rows → Valid w b → RoomFor w rows (sizes_from own 0 rows)
     → w' ≡ leave_words (commit (list_from (write_at own d) 0 rows) (store_in w b)) w → b' ≡ leave_bytes (commit (list_from (write_at own d) 0 rows) (store_in w b)) b → Valid w' b'

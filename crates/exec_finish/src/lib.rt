@@ -1,7 +1,7 @@
 // The end of an EXEC: what is decided of it, and that applied: the answer, the commit, and the session cleared.
 #![tactic(auto)]
 
-ghost use Rattle.std.specs.Prelude.{ℕ, ◌+◌, ◌*◌, ◌^◌, ◌<◌, ◌≤◌, ◌≡◌, ltb, length};
+ghost use Rattle.std.specs.Prelude.{ℕ, ◌+◌, ◌*◌, ◌^◌, ◌<◌, ◌≤◌, ◌≡◌, Ok, ltb, length};
 ghost use Rattle.store_memtable.specs.Versions.{commit};
 ghost use Rattle.store_memtable.specs.Layout.{last_word};
 ghost use Rattle.store_memtable.specs.Rows.{room_in};
@@ -9,7 +9,7 @@ ghost use Rattle.store_commit.specs.Leaving.{Leaves, SameLent, store_of};
 ghost use Rattle.group_spec.specs.Settling.{RoomFor, sizes_from};
 ghost use Rattle.command_writes.specs.Own.{own_writes};
 ghost use Rattle.exec_finish.specs.Leaving.{Closes};
-ghost use Rattle.exec_finish.specs.Deciding.{Concludes, Counted, Judges, prepared_as, prepared_by};
+ghost use Rattle.exec_finish.specs.Deciding.{Applies, Concludes, Counted, Judges, prepared_as, prepared_by};
 ghost use Rattle.command_spec.specs.Numbers.{answer_numbers, error_number};
 ghost use Rattle.exec_finish.specs.Numbers.{prepared_numbers, prepared_with};
 
@@ -17,6 +17,7 @@ use command_spec::{Answer, CallError};
 use command_writes::own::OwnWrites;
 use group_spec::Verdict;
 use group_spec::parts::Parts;
+use std::convert::Infallible;
 use store_commit::lent::StoreMut;
 use store_memtable::LAST;
 
@@ -103,8 +104,9 @@ pub fn judge(
     prepare(put, Verdict::Accepted, rows, end)
 }
 
-// Applies what was decided: the own writes are committed and the session is cleared. An error leaves all.
-pub fn apply<V: Copy, E: Copy>(
+// Concludes an EXEC by what was decided, with a verdict and an error of any type: the own writes are committed and the session is cleared. An error
+// leaves all.
+pub fn conclude<V: Copy, E: Copy>(
     session_words: &mut [u64],
     writes: &OwnWrites,
     store: &mut StoreMut,
@@ -123,4 +125,64 @@ pub fn apply<V: Copy, E: Copy>(
         used,
         reply: prepared.reply,
     })
+}
+
+// Applies what was decided: the own writes are committed and the session is cleared.
+pub fn apply(
+    session_words: &mut [u64],
+    writes: &OwnWrites,
+    store: &mut StoreMut,
+    prepared: Prepared,
+    used: usize,
+) -> Answer
+    requires session_words_len { length session_words.old ≡ 644 }
+    requires room_for { 0 < writes.now.rows → RoomFor store.old.words.now writes.now.rows (sizes_from writes.now.own.now 0 writes.now.rows) }
+    ensures lent { SameLent store.old store.new }
+    ensures applies { Applies (own_writes writes.now.own.now writes.now.«data».now writes.now.rows) (prepared_numbers (Ok prepared)) used store.old.words.now store.old.bytes.now session_words.old store.new.words.now store.new.bytes.now session_words.new (answer_numbers (Ok result)) }
+{
+    match conclude::<Verdict, Infallible>(session_words, writes, store, Ok(prepared), used) {
+        Ok(answer) => answer,
+        Err(never) => match never {},
+    }
+}
+
+#[cfg(test)]
+mod tests {
+    use super::*;
+    use command_writes::write;
+    use store_memtable::valid;
+
+    // The write of `v` for the key `k`, in a store of last sequence 7 with room for just that: it is committed at 8, and MULTI is over.
+    #[test]
+    fn applies_a_write(rt: HostRuntime) {
+        let mut words = [0, 0, 7, 1, 2, 0, 0, 0, 0];
+        let mut bytes = [0u8; 2];
+        let mut session_words = [0u64; 644];
+        session_words[0] = 1;
+        let data = b"kv";
+        let mut own = [0u64; 4];
+        let rows = write::put(&mut own, 0, data, 0, 1, 1, 2);
+        assert!(rt; valid::validate(&words, &bytes));
+        assert!(rt; group_judge::has_room(&own, 0, rows, &words));
+        let writes = OwnWrites {
+            own: &own,
+            rows,
+            data,
+        };
+        let mut store = StoreMut {
+            words: &mut words,
+            bytes: &mut bytes,
+        };
+        let prepared = Prepared {
+            verdict: Verdict::Accepted,
+            reply: 5,
+            rows,
+            end: 2,
+        };
+        let answer = apply(&mut session_words, &writes, &mut store, prepared, 9);
+        assert_eq!(rt; (answer.used, answer.reply), (9, 5));
+        assert_eq!(rt; words, [1, 2, 8, 1, 2, 0, 1, 2, 8]);
+        assert_eq!(rt; bytes, *data);
+        assert_eq!(rt; session_words[0], 0);
+    }
 }

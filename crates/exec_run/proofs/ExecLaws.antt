@@ -35,7 +35,7 @@ use Rattle.exec_decision.specs.Decided.{Decided, decide_queue}
 use Rattle.exec_decision.proofs.Executes.{judged_to, executes, queue_silent, queue_failed, queue_conflict, queue_judged}
 use Rattle.exec_finish.specs.declared.Prepared.{Prepared}
 use Rattle.exec_finish.specs.Numbers.{PreparedNumbers, prepared_numbers}
-use Rattle.exec_finish.proofs.ConcludeLaws.{concludes_error}
+use Rattle.exec_finish.proofs.ConcludeLaws.{applies_error, concludes_error}
 use Rattle.command_writes.proofs.Growing.{none_writes}
 use Rattle.exec_finish.specs.Leaving.{Leaves}
 use Rattle.exec_finish.specs.Deciding.{prepared_by, Judges, Decides, Applies, Concludes}
@@ -177,22 +177,46 @@ exec_applied s sb w b used out own d {r} {out'} {w'} {b'} {s'} {x} held k l =
     subst (λ (y : Served). Leaves y out w b s sb x out' w' b' s') (sym (executes (length out) used st t q))
     (l.leaves (decide_queue (length out) q st t) out out' sb held k.number k.size k.writes k.reply (queue_silent (length out) q st t))
 
--- after the queue, with what is prepared or with an error
+-- after the queue: with an error, with what is prepared, and with any of both
 module _ (s : List ℕ) (sb : Bytes) (w b : List ℕ) (used : ℕ) (out own d : Bytes) {mid : Bytes} (held : Held s sb) where
-  pub decided_applied : (e f : Result (Prepared Verdict) CallError) (r : Result Answer CallError) (z : ℕ × ℕ) {w' b' s' : List ℕ} → Valid w b → Decides (exec_decided (length out) s sb w b) w out own d (prepared_numbers e) mid
+  pub decided_stopped : (e : CallError) → Valid w b → Decides (exec_decided (length out) s sb w b) w out own d (prepared_numbers (Err e)) mid
+      → Leaves (exec_served (length out) used s sb w b) out w b s sb (answer_numbers (Err e)) mid w b s
+  decided_stopped e v k = exec_applied s sb w b used out own d held k (applies_error (own_writes own (take 0 d) 0) used w b e v)
+
+  pub decided_applied : (p : Prepared Verdict) {w' b' s' : List ℕ} {x : AnswerNumbers} → Decides (exec_decided (length out) s sb w b) w out own d (prepared_numbers (Ok p)) mid
+      → Applies (own_writes own (take p.end d) p.rows) (prepared_numbers (Ok p)) used w b s w' b' s' x → Leaves (exec_served (length out) used s sb w b) out w b s sb x mid w' b' s'
+  decided_applied p k l = exec_applied s sb w b used out own d held k l
+
+  pub decided_concluded : (e f : Result (Prepared Verdict) CallError) (r : Result Answer CallError) (z : ℕ × ℕ) {w' b' s' : List ℕ} → Valid w b → Decides (exec_decided (length out) s sb w b) w out own d (prepared_numbers e) mid
       → f ≡ e → z ≡ ((prepared_numbers e).rows, (prepared_numbers e).end) → Concludes (own_writes own (take z.1 d) z.0) f used w b s w' b' s' r
       → Leaves (exec_served (length out) used s sb w b) out w b s sb (answer_numbers r) mid w' b' s'
-  decided_applied e f r z {w'} {b'} {s'} v k same sizes l =
+  decided_concluded e f r z {w'} {b'} {s'} v k same sizes l =
       exec_applied s sb w b used out own d held k
       (concludes_error (own_writes own (take (prepared_numbers e).end d) (prepared_numbers e).rows) used w b e r v (rw (same, sizes) at l))
 
+-- no rows are none, whatever the end of their data is
+same_none : (rows end : ℕ) → rows ≤ 0 → own_writes [] [] 0 ≡ own_writes [] (take end []) rows
+same_none rows end h =
+    let none : rows ≡ 0 = omega arith in
+    none_writes [] [] ∙ sym (none_writes [] (take end [])) ∙ ap (own_writes [] (take end [])) (sym none)
+
 -- and before it, where nothing is written
 module _ (s : List ℕ) (sb : Bytes) (w b : List ℕ) (used : ℕ) (out : Bytes) {mid : Bytes} (held : Held s sb) where
-  pub known_applied : (e : Result (Prepared Verdict) CallError) (r : Result Answer CallError) {w' b' s' : List ℕ} → Valid w b → BeforeQueue s sb w b out (Some (prepared_numbers e)) mid
+  pub known_stopped : (e : CallError) → Valid w b → BeforeQueue s sb w b out (Some (prepared_numbers (Err e))) mid
+      → Leaves (exec_served (length out) used s sb w b) out w b s sb (answer_numbers (Err e)) mid w b s
+  known_stopped e v k = decided_stopped s sb w b used out [] [] held e v (k.known _ refl [] [])
+
+  pub known_applied : (p : Prepared Verdict) {w' b' s' : List ℕ} {x : AnswerNumbers} → BeforeQueue s sb w b out (Some (prepared_numbers (Ok p))) mid
+      → Applies (own_writes [] [] 0) (prepared_numbers (Ok p)) used w b s w' b' s' x → Leaves (exec_served (length out) used s sb w b) out w b s sb x mid w' b' s'
+  known_applied p {w'} {b'} {s'} {x} k l =
+      let kn = k.known _ refl [] [] in
+      let same = same_none p.rows p.end (omega (arith, kn.kept.rows.rows_in)) in
+      decided_applied s sb w b used out [] [] held p kn (subst (λ (ws : List Write). Applies ws (prepared_numbers (Ok p)) used w b s w' b' s' x) same l)
+
+  pub known_concluded : (e : Result (Prepared Verdict) CallError) (r : Result Answer CallError) {w' b' s' : List ℕ} → Valid w b → BeforeQueue s sb w b out (Some (prepared_numbers e)) mid
       → Concludes (own_writes [] [] 0) e used w b s w' b' s' r → Leaves (exec_served (length out) used s sb w b) out w b s sb (answer_numbers r) mid w' b' s'
-  known_applied e r {w'} {b'} {s'} v k l =
+  known_concluded e r {w'} {b'} {s'} v k l =
       let kn = k.known _ refl [] [] in
       let p = prepared_numbers e in
-      let none : p.rows ≡ 0 = omega (arith, kn.kept.rows.rows_in) in
-      let same : own_writes [] [] 0 ≡ own_writes [] (take p.end []) p.rows = none_writes [] [] ∙ sym (none_writes [] (take p.end [])) ∙ ap (own_writes [] (take p.end [])) (sym none) in
-      decided_applied s sb w b used out [] [] held e e r (p.rows, p.end) v kn refl refl (subst (λ (ws : List Write). Concludes ws e used w b s w' b' s' r) same l)
+      let same = same_none p.rows p.end (omega (arith, kn.kept.rows.rows_in)) in
+      decided_concluded s sb w b used out [] [] held e e r (p.rows, p.end) v kn refl refl (subst (λ (ws : List Write). Concludes ws e used w b s w' b' s' r) same l)

@@ -48,7 +48,7 @@ fn exec_in(
         rows,
         data: &data[..end],
     };
-    exec_finish::apply(session_words, &writes, store, prepared, used)
+    exec_finish::conclude(session_words, &writes, store, prepared, used)
 }
 
 // The same, with working memory by the sizes of the queue.
@@ -108,5 +108,5 @@ pub fn exec(
         rows: 0,
         data: &[],
     };
-    exec_finish::apply(session_words, &none, store, prepared, used)
+    exec_finish::conclude(session_words, &none, store, prepared, used)
 }
