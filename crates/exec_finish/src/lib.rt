@@ -6,6 +6,7 @@ ghost use Rattle.store_memtable.specs.Versions.{commit};
 ghost use Rattle.store_memtable.specs.Layout.{last_word};
 ghost use Rattle.store_memtable.specs.Rows.{room_in};
 ghost use Rattle.store_commit.specs.Leaving.{Leaves, SameLent, store_of};
+ghost use Rattle.group_spec.specs.Group.{verdict_byte};
 ghost use Rattle.group_spec.specs.Settling.{RoomFor, sizes_from};
 ghost use Rattle.command_writes.specs.Own.{own_writes};
 ghost use Rattle.exec_finish.specs.Leaving.{Closes};
@@ -59,9 +60,9 @@ fn commit_own(writes: &OwnWrites, store: &mut StoreMut)
     }
 }
 
-// What is decided where a reply was put, if it fits.
+// What is decided where a reply was put, if it fits, with a verdict of any type.
 #[tactic(auto, unfolding(crate::specs::Deciding::prepared_as))]
-pub fn prepare<V: Copy>(
+pub fn prepare_any<V: Copy>(
     put: Option<usize>,
     verdict: V,
     rows: usize,
@@ -77,6 +78,18 @@ pub fn prepare<V: Copy>(
         rows,
         end,
     })
+}
+
+// What is decided where a reply was put, if it fits.
+pub fn prepare(
+    put: Option<usize>,
+    verdict: Verdict,
+    rows: usize,
+    end: usize,
+) -> Result<Prepared, CallError>
+    ensures { prepared_numbers result ≡ prepared_by put (verdict_byte verdict) rows end }
+{
+    prepare_any(put, verdict, rows, end)
 }
 
 // What is decided of an EXEC whose queue has run: room and sequences come before the reply.
@@ -101,7 +114,7 @@ pub fn judge(
         base_writing::clear(out);
         return Err(CallError::NoSequence);
     }
-    prepare(put, Verdict::Accepted, rows, end)
+    prepare_any(put, Verdict::Accepted, rows, end)
 }
 
 // Concludes an EXEC by what was decided, with a verdict and an error of any type: the own writes are committed and the session is cleared. An error
@@ -184,5 +197,17 @@ mod tests {
         assert_eq!(rt; words, [1, 2, 8, 1, 2, 0, 1, 2, 8]);
         assert_eq!(rt; bytes, *data);
         assert_eq!(rt; session_words[0], 0);
+    }
+
+    // A reply of 5 bytes for one row in 2 bytes is prepared, and one that does not fit is 3.
+    #[test]
+    fn prepares_a_reply(rt: HostRuntime) {
+        let Ok(prepared) = prepare(Some(5), Verdict::Conflict, 1, 2) else {
+            panic!(rt; "a reply that fits");
+        };
+        assert_eq!(rt; (prepared.reply, prepared.rows, prepared.end), (5, 1, 2));
+        assert!(rt; matches!(prepared.verdict, Verdict::Conflict));
+        let full = prepare(None, Verdict::Conflict, 1, 2);
+        assert!(rt; matches!(full, Err(CallError::ReplyTooLong)));
     }
 }

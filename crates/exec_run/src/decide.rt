@@ -30,11 +30,11 @@ pub fn before_queue(
     prove!(store.words[LAST] <= u64::MAX);
     if session_flags::failed(session.words) {
         let put = command_errors::put_fixed(out, Fixed::ExecAbort);
-        return Ok(Some(exec_finish::prepare(put, Verdict::NotTaken, 0, 0)?));
+        return Ok(Some(exec_finish::prepare_any(put, Verdict::NotTaken, 0, 0)?));
     }
     if session_watch::watched_moved(session, store) {
         let put = reply::put_nil_array(out);
-        return Ok(Some(exec_finish::prepare(put, Verdict::Conflict, 0, 0)?));
+        return Ok(Some(exec_finish::prepare_any(put, Verdict::Conflict, 0, 0)?));
     }
     Ok(None)
 }

@@ -86,6 +86,6 @@ pub fn preview(session: &Session, store: &Store, out: &mut [u8]) -> Result<Previ
     }
     let last = store.words[LAST];
     let put = command_errors::put_fixed(out, Fixed::ExecAlone);
-    let prepared = exec_finish::prepare(put, Verdict::NotTaken, 0, 0)?;
+    let prepared = exec_finish::prepare_any(put, Verdict::NotTaken, 0, 0)?;
     Ok(preview_of(prepared, last))
 }

@@ -1,7 +1,7 @@
--- `exec_finish::prepare` meets its contract. Assumes nothing.
+-- `exec_finish::prepare_any` meets its contract. Assumes nothing.
 use borrow.Author.Rules.{rules}
 use Rattle.exec_finish.specs.Deciding.{prepared_by}
-use Rattle.exec_finish.proofs.prepare.Goals as goal
+use Rattle.exec_finish.proofs.prepare_any.Goals as goal
 
 pub returns-in_err-reply-clause-numbers : goal.returns-in_err-reply-clause-numbers
 unfolding prepared_by
