@@ -1,5 +1,5 @@
 -- Laws of lists into which something is written or in which something moves up. Assumes nothing.
-use mathlib.Core.Path.{◌≡◌, refl, sym, ap, ◌∙◌}
+use mathlib.Core.Path.{◌≡◌, refl, sym, ap, ◌∙◌, subst}
 use mathlib.Core.List.{List, [], ◌∷◌, ◌++◌, append_assoc}
 use Prim.Native.Nat.{ℕ, suc, ◌+◌, ◌-◌, ◌<◌, ◌≤◌}
 use native.Mathlib.Nat.{suc-add, add-zero, add_assoc, le_antisymm}
@@ -83,16 +83,24 @@ module _ {A : Type 0} where
   putting_none d at s = record { within = omega arith; is = paste-zero d at s; same = refl }
 
   module _ {d : List A} {at : ℕ} {s a : List A} {i : ℕ} (p : Putting d at s a i) where
-    pub putting_more : at + length s ≤ length d → i < length s → (x : A) → x ≡ get_or s i x → Putting d at s (set a (at + i) x) (i + 1)
-    putting_more room h x e = record {
+    pub putting_read : at + length s ≤ length d → i < length s → (x : A) → Putting d at s (set a (at + i) (get_or s i x)) (i + 1)
+    putting_read room h x = record {
       within = omega arith;
-      is = ap (λ (y : A). set a (at + i) y) e ∙ rw (p.is, add-one) (paste-suc d at s i x (omega arith) h);
+      is = rw (p.is, add-one) (paste-suc d at s i x (omega arith) h);
       same = length-set a _ _ ∙ p.same;
     }
+
+    pub putting_next : at + length s ≤ length d → i < length s → (x : A) → x ≡ get_or s i x → Putting d at s (set a (at + i) x) (i + 1)
+    putting_next room h x e = subst (λ (y : A). Putting d at s (set a (at + i) y) (i + 1)) (sym e) (putting_read room h x)
 
     pub putting_all : length s ≤ i → a ≡ put_at at s d
     unfolding put_at
     putting_all h = rw (p.is, le_antisymm p.within h, take-length, append_assoc)
+
+-- of words
+module _ {d : List ℕ} {at : ℕ} {s a : List ℕ} {i : ℕ} (p : Putting d at s a i) where
+  pub putting_more : at + length s ≤ length d → i < length s → Putting d at s (set a (at + i) (get_or s i 0)) (i + 1)
+  putting_more room h = putting_read p room h 0
 
 -- MOVED UP
 -- a step of the move: the element at i goes up, where all from suc i on have gone

@@ -71,25 +71,37 @@ step_word s a h k = k.refused ∙ ap Refused k.is ∙ step_number s a h
 
 -- THE STEP of an answer
 module _ (s : Bytes) (a : Answer) where
-  step_none : a.used ≡ 0 → Waits ≡ step_of s (answer_numbers (Ok a))
+  answer_waits : a.used ≡ 0 → Waits ≡ step_of s (answer_numbers (Ok a))
   unfolding step_of
-  step_none e = rw (eq-eqb a.used 0 e)
+  answer_waits e = rw (eq-eqb a.used 0 e)
 
-  step_some : {n : ℕ} → (a.used ≡ 0 → ⊥) → n ≡ done_with s a.used → Used n a.reply ≡ step_of s (answer_numbers (Ok a))
+  answer_used : {n : ℕ} → (a.used ≡ 0 → ⊥) → n ≡ done_with s a.used → Used n a.reply ≡ step_of s (answer_numbers (Ok a))
   unfolding step_of
-  step_some e d = rw (ne_eqb a.used 0 e, d)
+  answer_used e d = rw (ne_eqb a.used 0 e, d)
 
 module _ {E : Type 0} (told : E → ℕ → Type 0) (s : Bytes) (r : Result Answer E) {a : Answer} (is : r ≡ Ok a) where
   pub steps_none : a.used ≡ 0 → StepsTo told s r Waits
-  steps_none e = rw is (step_none s a e)
+  steps_none e = rw is (answer_waits s a e)
 
   pub steps_some : {n : ℕ} → (a.used ≡ 0 → ⊥) → n ≡ done_with s a.used → StepsTo told s r (Used n a.reply)
-  steps_some e d = rw is (step_some s a e d)
+  steps_some e d = rw is (answer_used s a e d)
 
 -- and of a call's error, by its number
-pub step_error : (s : Bytes) (a : Result Answer CallError) {r : Step} → StepsTo (λ e n. n ≡ error_number e) s a r → r ≡ step_of s (answer_numbers a)
-step_error s (Ok a) h = h
-step_error s (Err e) h = h.refused ∙ ap Refused h.is ∙ step_number s (answer_numbers (Err e)) (positive (error_number e) (error_numbered e))
+pub steps_numbered : (s : Bytes) (a : Result Answer CallError) {r : Step} → StepsTo (λ e n. n ≡ error_number e) s a r → r ≡ step_of s (answer_numbers a)
+steps_numbered s (Ok a) h = h
+steps_numbered s (Err e) h = h.refused ∙ ap Refused h.is ∙ step_number s (answer_numbers (Err e)) (positive (error_number e) (error_numbered e))
+
+-- THE STEP of a call's answer
+module _ (s : Bytes) {r : Result Answer CallError} where
+  pub step_error : {e : CallError} {n : ℕ} → r ≡ Err e → n ≡ error_number e → Refused n ≡ step_of s (answer_numbers r)
+  step_error {e} {n} is told = steps_numbered s r (rw is (record { number = n; refused = refl; is = told }))
+
+  module _ {a : Answer} (is : r ≡ Ok a) where
+    pub step_none : a.used ≡ 0 → Waits ≡ step_of s (answer_numbers r)
+    step_none e = rw is (answer_waits s a e)
+
+    pub step_some : {n : ℕ} → (a.used ≡ 0 → ⊥) → n ≡ done_with s a.used → Used n a.reply ≡ step_of s (answer_numbers r)
+    step_some e d = rw is (answer_used s a e d)
 
 -- and what the table holds of it
 pub told_ok : (s : Bytes) (a : Result Answer CallError) {table : List ℕ} → Told s (answer_numbers a) table → IfOk a (λ x. Told s (answer_numbers (Ok x)) table)

@@ -93,7 +93,7 @@ fn serve_next(
     let from = at.from;
     let input = &held[from..];
     let answer = call_serve::serve_session(session, input, places, lent, reply);
-    let step = step::step_of(input, places, answer);
+    let step = step::step_of_any(input, places, answer);
     after_step(at, held.len(), step, page, reply)
 }
 

@@ -3,9 +3,9 @@ ghost use Rattle.std.specs.Prelude.{◌≡◌, IfOk, Ok, length};
 ghost use Rattle.resp_spec.specs.Request.{read_request};
 ghost use Rattle.command_spec.specs.Numbers.{answer_numbers};
 ghost use Rattle.frames_lines.specs.Quit.{Drops, Told};
-ghost use Rattle.frames_console.specs.Steps.{done_with, replied_after, StepsTo};
+ghost use Rattle.frames_console.specs.Steps.{done_with, step_of, replied_after, StepsTo};
 
-use command_spec::Answer;
+use command_spec::{Answer, CallError};
 use frames_lines::quit;
 
 // A returned number; no whole request; or a request with the bytes that are done with and those of its reply.
@@ -35,7 +35,7 @@ fn done_with(input: &[u8], places: &[u64], used: usize, reply: usize) -> usize
 }
 
 // The step that an answer to the request at the front of `input` makes; `places` holds what was read. An error is refused with its number.
-pub fn step_of<E: Into<u64>>(input: &[u8], places: &[u64], answer: Result<Answer, E>) -> Step
+pub fn step_of_any<E: Into<u64>>(input: &[u8], places: &[u64], answer: Result<Answer, E>) -> Step
     requires places_len { length places.now ≡ 2048 }
     requires told { IfOk answer (λ a. Told input.now (answer_numbers (Ok a)) places.now) }
     ensures { StepsTo E.converts input.now answer result }
@@ -50,10 +50,38 @@ pub fn step_of<E: Into<u64>>(input: &[u8], places: &[u64], answer: Result<Answer
     }
 }
 
+// The step that an answer to the request at the front of `input` makes; `places` holds what was read.
+#[tactic(auto, unfolding(crate::specs::Steps::step_of))]
+pub fn step_of(input: &[u8], places: &[u64], answer: Result<Answer, CallError>) -> Step
+    requires places_len { length places.now ≡ 2048 }
+    requires told { Told input.now (answer_numbers answer) places.now }
+    ensures { result ≡ step_of input.now (answer_numbers answer) }
+{
+    step_of_any(input, places, answer)
+}
+
 // Whether a reply byte was written, after `count` more.
 #[tactic(auto, unfolding(crate::specs::Steps::replied_after))]
 pub fn replied_after(replied: bool, count: usize) -> bool
     ensures { result ≡ replied_after replied count }
 {
     replied || 0 < count
+}
+
+#[cfg(test)]
+mod tests {
+    use super::*;
+
+    // The reply to a PING takes 7 bytes.
+    #[test]
+    fn steps_by_answer(rt: HostRuntime) {
+        let input = b"PING\r\n";
+        let places = [0u64; 2048];
+        let refused = step_of(input, &places, Err(CallError::ReplyTooLong));
+        assert!(rt; matches!(refused, Step::Refused(3)));
+        let waits = step_of(input, &places, Ok(Answer { used: 0, reply: 0 }));
+        assert!(rt; matches!(waits, Step::Waits));
+        let used = step_of(input, &places, Ok(Answer { used: 6, reply: 7 }));
+        assert!(rt; matches!(used, Step::Used(6, 7)));
+    }
 }

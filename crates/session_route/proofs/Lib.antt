@@ -2,6 +2,7 @@
 pub mod Among
 pub mod Answering
 pub mod Enqueueing
+pub mod Fixtures
 pub mod Requested
 pub mod Routing
 pub mod WatchAnswers

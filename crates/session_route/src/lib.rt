@@ -6,4 +6,6 @@ pub mod local;
 pub mod queueing;
 pub mod routes;
 pub mod steer;
+#[cfg(test)]
+mod tests;
 pub mod watching;

@@ -30,7 +30,7 @@ pub fn answer(
     // A `match`: the input tells which runs, and no function may hand a closure out.
     match way {
         Way::Steer(step) => steer::steer(step, words, out, used),
-        Way::Watch => watching::watch_keys(
+        Way::Watch => watching::watch_by_row(
             words,
             bytes,
             &named.request,
@@ -40,7 +40,7 @@ pub fn answer(
             out,
             used,
         ),
-        Way::Queue => queueing::queue_up(
+        Way::Queue => queueing::queue_by_row(
             words,
             bytes,
             &named.request,

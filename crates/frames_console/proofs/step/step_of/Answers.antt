@@ -1,9 +1,9 @@
 -- `frames_console::step::step_of` meets its contract. Assumes nothing.
-use Rattle.frames_console.proofs.StepLaws.{steps_none, steps_some}
+use Rattle.frames_console.proofs.StepLaws.{told_ok, steps_numbered}
 use Rattle.frames_console.proofs.step.step_of.Goals as goal
 
-pub returns-in-Ok : goal.returns-in-Ok
-returns-in-Ok g c = steps_none g.E.Into.converts _ _ c.in-Ok.is c.if-answer-eq0.true
+pub step_of_any-requires-clause-told : goal.step_of_any-requires-clause-told
+step_of_any-requires-clause-told c = told_ok _ _ c.requires.told
 
-pub returns-in-Ok-2 : goal.returns-in-Ok-2
-returns-in-Ok-2 g c = steps_some g.E.Into.converts _ _ c.in-Ok-2.is (λ z. c.if-answer-eq0.false (cc (z, c.in-Ok.is, c.in-Ok-2.is))) c.done_with-done.ensures
+pub returns : goal.returns
+returns c = steps_numbered _ _ c.step_of_any.ensures

@@ -1,6 +1,6 @@
--- `session_route::watching::watch_keys` meets its contract. By the argument count. Assumes nothing.
+-- `session_route::watching::watch_by_row` meets its contract. By the argument count. Assumes nothing.
 use Rattle.session_route.proofs.WatchAnswers.{count_right_lem, count_wrong}
-use Rattle.session_route.proofs.watching.watch_keys.Goals as goal
+use Rattle.session_route.proofs.watching.watch_by_row.Goals as goal
 
 pub returns-then-count_right : goal.returns-then-count_right
 returns-then-count_right c = search count_right_lem

@@ -1,6 +1,6 @@
--- `session_route::queueing::queue_up` meets its contract. By the argument count, and whether SET has options. Assumes nothing.
+-- `session_route::queueing::queue_by_row` meets its contract. By the argument count, and whether SET has options. Assumes nothing.
 use Rattle.session_route.proofs.Enqueueing.{queue_miscounted, queue_options, queue_counted}
-use Rattle.session_route.proofs.queueing.queue_up.Goals as goal
+use Rattle.session_route.proofs.queueing.queue_by_row.Goals as goal
 
 pub returns-then-not-count_right : goal.returns-then-not-count_right
 returns-then-not-count_right c = search queue_miscounted
