@@ -177,7 +177,7 @@ exec_applied s sb w b used out own d {r} {out'} {w'} {b'} {s'} {x} held k l =
     subst (λ (y : Served). Leaves y out w b s sb x out' w' b' s') (sym (executes (length out) used st t q))
     (l.leaves (decide_queue (length out) q st t) out out' sb held k.number k.size k.writes k.reply (queue_silent (length out) q st t))
 
--- after the queue: with an error, with what is prepared, and with any of both
+-- after the queue: with an error, with what is prepared, and with either
 module _ (s : List ℕ) (sb : Bytes) (w b : List ℕ) (used : ℕ) (out own d : Bytes) {mid : Bytes} (held : Held s sb) where
   pub decided_stopped : (e : CallError) → Valid w b → Decides (exec_decided (length out) s sb w b) w out own d (prepared_numbers (Err e)) mid
       → Leaves (exec_served (length out) used s sb w b) out w b s sb (answer_numbers (Err e)) mid w b s
