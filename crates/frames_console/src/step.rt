@@ -51,6 +51,7 @@ pub fn step_of_any<E: Into<u64>>(input: &[u8], places: &[u64], answer: Result<An
 }
 
 // The step that an answer to the request at the front of `input` makes; `places` holds what was read.
+#[tactic(auto, unfolding(crate::specs::Steps::step_of))]
 pub fn step_of(input: &[u8], places: &[u64], answer: Result<Answer, CallError>) -> Step
     requires places_len { length places.now ≡ 2048 }
     requires told { Told input.now (answer_numbers answer) places.now }
