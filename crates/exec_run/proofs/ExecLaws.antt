@@ -194,7 +194,7 @@ module _ (s : List ℕ) (sb : Bytes) (w b : List ℕ) (used : ℕ) (out own d : 
       exec_applied s sb w b used out own d held k
       (concludes_error (own_writes own (take (prepared_numbers e).end d) (prepared_numbers e).rows) used w b e r v (rw (same, sizes) at l))
 
--- no rows are none, whatever the end of their data is
+-- without rows nothing is written, wherever their data ends
 same_none : (rows end : ℕ) → rows ≤ 0 → own_writes [] [] 0 ≡ own_writes [] (take end []) rows
 same_none rows end h =
     let none : rows ≡ 0 = omega arith in
